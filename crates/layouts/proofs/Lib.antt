@@ -1,0 +1,4 @@
+pub mod Bounds
+pub mod LinkNumbers
+pub mod Rising
+pub mod Law

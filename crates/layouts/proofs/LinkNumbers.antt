@@ -1,0 +1,127 @@
+-- The numbers of a mesh's links: each number below the count is that of one link, and each link has its own. Assumes nothing.
+use mathlib.Core.Path.{_≡_, refl, ap, subst, _∙_}
+use mathlib.Core.Bool.{cond}
+use Prim.Native.Nat.{ℕ, _+_, _*_, _-_, _/_, _%_, _<_, _≤_}
+use native.Mathlib.Nat.{mul-comm, zero-add}
+use native.Mathlib.Omega.{arith}
+use lib.Dec.{ltb}
+use Rattle.std.proofs.shelf.Bits.{div-below, mod-below, div-add-mod', div-mul-add, mod-mul-add, mul-add-lt}
+use Rattle.std.proofs.shelf.Tests.{cond-both, cond-true, cond-false, lt-ltb, le-ltb, ltb-true, ltb-false}
+use Rattle.std.specs.declared.option.Option.{Option}
+use Rattle.std.specs.declared.option.Option.the-variants.{None, Some}
+use Rattle.layouts.specs.declared.direction.Direction.{Direction}
+use Rattle.layouts.specs.declared.direction.Direction.the-variants.{East, West, North, South}
+use Rattle.layouts.specs.declared.direction.MeshLink.{MeshLink}
+use Rattle.layouts.specs.Mesh.{InRange, column, row, Inside, startOf, endOf, level, upright, linkCount, base, place, numberOf, meshLink, linkIn, linkAt}
+
+-- how many links a block has
+abbrev size : ℕ → ℕ → Direction → ℕ
+size w h East = level w h
+size w h West = level w h
+size w h North = upright w h
+size w h South = upright w h
+
+-- the column and row of place j, in n rows of m places
+cell : (m n j : ℕ) → 0 < m → j < n * m → (j % m < m) × (j / m < n) × (j / m * m + j % m ≡ j)
+cell m n j p l = (mod-below j m p, div-below j m n p l, div-add-mod' j m)
+
+-- what a number tells of its link
+abbrev pub Found : ℕ → ℕ → ℕ → Option MeshLink → Type 0
+Found w h k None = linkCount w h ≤ k
+Found w h k (Some l) = Inside w h l × (k < linkCount w h) × (numberOf w h l ≡ k)
+
+module _ (w h : ℕ) (r : InRange w h) where
+  -- each place of a block has a link
+  in-block : (d : Direction) (j : ℕ) → j < size w h d → Inside w h (linkIn w d j) × (numberOf w h (linkIn w d j) ≡ base w h d + j)
+  in-block East j l =
+      let c = cell (w - 1) h j (omega arith) l in
+      (record { x-in = omega arith; y-in = omega arith; leaves = tt; x-next = omega arith; y-next = omega arith }, omega arith)
+  in-block West j l =
+      let c = cell (w - 1) h j (omega arith) l in
+      (record { x-in = omega arith; y-in = omega arith; leaves = omega arith; x-next = omega arith; y-next = omega arith }, omega arith)
+  in-block North j l =
+      let c = cell w (h - 1) j (omega arith) (omega (arith, mul-comm w (h - 1))) in
+      (record { x-in = omega arith; y-in = omega arith; leaves = tt; x-next = omega arith; y-next = omega arith }, omega arith)
+  in-block South j l =
+      let c = cell w (h - 1) j (omega arith) (omega (arith, mul-comm w (h - 1))) in
+      let e : j / w + 1 - 1 ≡ j / w = omega arith in
+      (record { x-in = omega arith; y-in = omega arith; leaves = omega arith; x-next = omega arith; y-next = omega arith }, omega (arith, ap (λ n. n * w) e))
+
+  -- each link has a place in its block
+  of-block : (d : Direction) (x y : ℕ) → Inside w h (meshLink d x y) → (place w d x y < size w h d) × (linkIn w d (place w d x y) ≡ meshLink d x y)
+  of-block East x y i =
+      let p : x < w - 1 = omega (arith, i .x-next) in
+      (omega (arith, mul-add-lt y (w - 1) x h (i .y-in) p, mul-comm (w - 1) h), simp (mod-mul-add y (w - 1) x p, div-mul-add y (w - 1) x p) refl)
+  of-block West x y i =
+      let p : x - 1 < w - 1 = omega (arith, i .x-in) in
+      let e : x - 1 + 1 ≡ x = omega (arith, i .leaves) in
+      (omega (arith, mul-add-lt y (w - 1) (x - 1) h (i .y-in) p, mul-comm (w - 1) h), simp (mod-mul-add y (w - 1) (x - 1) p, div-mul-add y (w - 1) (x - 1) p, e) refl)
+  of-block North x y i =
+      let p : y < h - 1 = omega (arith, i .y-next) in
+      (mul-add-lt y w x (h - 1) p (i .x-in), simp (mod-mul-add y w x (i .x-in), div-mul-add y w x (i .x-in)) refl)
+  of-block South x y i =
+      let p : y - 1 < h - 1 = omega (arith, i .y-in) in
+      let e : y - 1 + 1 ≡ y = omega (arith, i .leaves) in
+      (mul-add-lt (y - 1) w x (h - 1) p (i .x-in), simp (mod-mul-add (y - 1) w x (i .x-in), div-mul-add (y - 1) w x (i .x-in), e) refl)
+
+  block-end : (d : Direction) → base w h d + size w h d ≤ linkCount w h
+  block-end East = omega arith
+  block-end West = omega arith
+  block-end North = omega arith
+  block-end South = omega arith
+
+  found-in : (d : Direction) (j k : ℕ) → j < size w h d → base w h d + j ≡ k → Found w h k (Some (linkIn w d j))
+  found-in d j k l e = let i = in-block d j l in (i .0, omega (arith, block-end d), i .1 ∙ e)
+
+  pub found : (k : ℕ) → Found w h k (linkAt w h k)
+  found k =
+      cond-both (ltb k (base w h West)) _ _ (Found w h k)
+      (λ e. let a = ltb-true k (base w h West) e in found-in East k k a (omega arith))
+      (λ e. let a = ltb-false k (base w h West) e in cond-both (ltb k (base w h North)) _ _ (Found w h k)
+      (λ f. let b = ltb-true k (base w h North) f in found-in West (k - base w h West) k (omega arith) (omega arith))
+      (λ f. let b = ltb-false k (base w h North) f in cond-both (ltb k (base w h South)) _ _ (Found w h k)
+      (λ g. let c = ltb-true k (base w h South) g in found-in North (k - base w h North) k (omega arith) (omega arith))
+      (λ g. let c = ltb-false k (base w h South) g in cond-both (ltb k (linkCount w h)) _ _ (Found w h k)
+      (λ o. let d = ltb-true k (linkCount w h) o in found-in South (k - base w h South) k (omega arith) (omega arith))
+      (λ o. ltb-false k (linkCount w h) o))))
+
+  -- the link at a place of a block is found at its number
+  at-place : (d : Direction) (j : ℕ) → j < size w h d → linkAt w h (base w h d + j) ≡ Some (linkIn w d j)
+  at-place East j l =
+      cond-true (ltb (base w h East + j) (base w h West)) _ _ (lt-ltb _ _ (omega arith))
+      ∙ ap (λ n. Some (linkIn w East n)) (zero-add j)
+  at-place West j l =
+      let k = base w h West + j in
+      let e : k - base w h West ≡ j = omega arith in
+      cond-false (ltb k (base w h West)) _ _ (le-ltb _ _ (omega arith))
+      ∙ cond-true (ltb k (base w h North)) _ _ (lt-ltb _ _ (omega arith))
+      ∙ ap (λ n. Some (linkIn w West n)) e
+  at-place North j l =
+      let k = base w h North + j in
+      let e : k - base w h North ≡ j = omega arith in
+      cond-false (ltb k (base w h West)) _ _ (le-ltb _ _ (omega arith))
+      ∙ cond-false (ltb k (base w h North)) _ _ (le-ltb _ _ (omega arith))
+      ∙ cond-true (ltb k (base w h South)) _ _ (lt-ltb _ _ (omega arith))
+      ∙ ap (λ n. Some (linkIn w North n)) e
+  at-place South j l =
+      let k = base w h South + j in
+      let e : k - base w h South ≡ j = omega arith in
+      cond-false (ltb k (base w h West)) _ _ (le-ltb _ _ (omega arith))
+      ∙ cond-false (ltb k (base w h North)) _ _ (le-ltb _ _ (omega arith))
+      ∙ cond-false (ltb k (base w h South)) _ _ (le-ltb _ _ (omega arith))
+      ∙ cond-true (ltb k (linkCount w h)) _ _ (lt-ltb _ _ (omega arith))
+      ∙ ap (λ n. Some (linkIn w South n)) e
+
+  -- the link of a link's number is that link
+  pub at-number : (l : MeshLink) → Inside w h l → linkAt w h (numberOf w h l) ≡ Some l
+  at-number l i = let p = of-block (l .direction) (l .x) (l .y) i in at-place (l .direction) (place w (l .direction) (l .x) (l .y)) (p .0) ∙ ap Some (p .1)
+
+  pub number-lt : (l : MeshLink) → Inside w h l → numberOf w h l < linkCount w h
+  number-lt l i = omega (arith, of-block (l .direction) (l .x) (l .y) i .0, block-end (l .direction))
+
+  -- the tiles of a link that lies on the mesh
+  pub start-lt : (l : MeshLink) → Inside w h l → startOf w l < w * h
+  start-lt l i = mul-add-lt (l .y) w (l .x) h (i .y-in) (i .x-in)
+
+  pub end-lt : (l : MeshLink) → Inside w h l → endOf w l < w * h
+  end-lt l i = mul-add-lt (row (l .direction) (l .y)) w (column (l .direction) (l .x)) h (i .y-next) (i .x-next)

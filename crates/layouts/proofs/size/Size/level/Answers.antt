@@ -1,0 +1,6 @@
+use mathlib.Core.Path.{refl}
+use Rattle.layouts.proofs.Bounds.{level-le}
+use Rattle.layouts.proofs.size.Size.level.Needs as need
+
+pub returns : need.returns
+returns c = (refl, level-le _ _ (c .args .self .now .ok))

@@ -1,0 +1,11 @@
+// Layouts: which tiles and links there are, and how two links may follow each other.
+pub mod direction;
+pub mod examples;
+pub mod layout;
+pub mod mesh;
+pub mod numbering;
+pub mod size;
+#[cfg(test)]
+mod tests;
+pub mod turn;
+pub mod turn_rule;

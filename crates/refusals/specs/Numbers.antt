@@ -1,0 +1,7 @@
+-- The number of each refusal. Assumes nothing.
+use Prim.Native.Nat.{ℕ}
+use Rattle.refusals.specs.declared.refusal.Refusal.{Refusal}
+use Rattle.refusals.specs.declared.refusal.Refusal.the-variants.{MeshSize}
+
+abbrev pub numberOf : Refusal → ℕ
+numberOf MeshSize = 1

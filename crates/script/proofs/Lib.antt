@@ -1,0 +1,3 @@
+pub mod Runs
+pub mod WordCuts
+pub mod Decimals

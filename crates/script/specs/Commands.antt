@@ -1,0 +1,78 @@
+-- The command that the words of a line make. Assumes nothing.
+use mathlib.Core.Bool.{cond}
+use mathlib.Core.List.{List, [], _∷_}
+use Prim.Native.Nat.{ℕ}
+use lib.Chars.{codes}
+use Rattle.std.specs.shelf.Text.{sameBytes}
+use Rattle.std.specs.declared.option.Option.{Option}
+use Rattle.std.specs.declared.option.Option.the-variants.{None, Some}
+use Rattle.std.specs.declared.result.Result.{Result}
+use Rattle.std.specs.declared.result.Result.the-variants.{Ok, Err}
+use Rattle.layouts.specs.declared.turn_rule.TurnRule.{TurnRule}
+use Rattle.layouts.specs.declared.turn_rule.TurnRule.the-variants.{Xy, WestFirst, NorthLast, NegativeFirst}
+use Rattle.script.specs.declared.command.Command.{Command}
+use Rattle.script.specs.declared.command.Command.the-variants.{Mesh, Link, Turn}
+use Rattle.script.specs.declared.mistake.Mistake.{Mistake}
+use Rattle.script.specs.declared.mistake.Mistake.the-variants.{UnknownCommand, MissingWord, ExtraWord, UnknownRule}
+use Rattle.script.specs.Numbers.{decimalOf}
+
+-- a value, or the first mistake
+abbrev pub Read : Type 0 → Type 0
+Read A = Result A Mistake
+
+abbrev pub then : {A B : Type 0} → Read A → (A → Read B) → Read B
+then (Ok x) f = f x
+then (Err m) f = Err m
+
+-- the turn rule that a word names
+abbrev pub ruleOf : List ℕ → Read TurnRule
+ruleOf w =
+    cond (sameBytes w (codes "xy")) (Ok Xy)
+    (cond (sameBytes w (codes "west-first")) (Ok WestFirst)
+    (cond (sameBytes w (codes "north-last")) (Ok NorthLast)
+    (cond (sameBytes w (codes "negative-first")) (Ok NegativeFirst)
+    (Err UnknownRule))))
+
+-- the first word as f reads it, and the words behind it
+abbrev pub first : {A : Type 0} → (List ℕ → Read A) → List (List ℕ) → Read A
+first f [] = Err MissingWord
+first f (w ∷ ws) = f w
+
+abbrev pub behind : List (List ℕ) → List (List ℕ)
+behind [] = []
+behind (w ∷ ws) = ws
+
+abbrev pub rule : List (List ℕ) → Read TurnRule
+rule ws = first ruleOf ws
+
+-- a number of 16 bits
+abbrev pub number : List (List ℕ) → Read ℕ
+number ws = first (decimalOf 65535) ws
+
+abbrev pub end : List (List ℕ) → Read (Unit {0})
+end [] = Ok tt
+end (w ∷ ws) = Err ExtraWord
+
+-- what stands behind each command's name
+abbrev pub mesh : List (List ℕ) → Read Command
+mesh ws =
+    then (rule ws) (λ r. then (number (behind ws)) (λ w. then (number (behind (behind ws))) (λ h.
+    then (end (behind (behind (behind ws)))) (λ _. Ok (Mesh r w h)))))
+
+abbrev pub link : List (List ℕ) → Read Command
+link ws = then (number ws) (λ k. then (end (behind ws)) (λ _. Ok (Link k)))
+
+abbrev pub turn : List (List ℕ) → Read Command
+turn ws = then (number ws) (λ a. then (number (behind ws)) (λ b. then (end (behind (behind ws))) (λ _. Ok (Turn a b))))
+
+abbrev pub named : List ℕ → List (List ℕ) → Read Command
+named name ws =
+    cond (sameBytes name (codes "mesh")) (mesh ws)
+    (cond (sameBytes name (codes "link")) (link ws)
+    (cond (sameBytes name (codes "turn")) (turn ws)
+    (Err UnknownCommand)))
+
+-- the command of a line, none where it has no word
+abbrev pub commandOf : List (List ℕ) → Read (Option Command)
+commandOf [] = Ok None
+commandOf (name ∷ ws) = then (named name ws) (λ c. Ok (Some c))

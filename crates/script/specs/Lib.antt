@@ -1,0 +1,5 @@
+pub mod Bytes
+pub mod Words
+pub mod Mistakes
+pub mod Numbers
+pub mod Commands

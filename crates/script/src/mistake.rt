@@ -1,0 +1,49 @@
+// What can be wrong with a line of a script.
+ghost use mathlib.Core.Path.{_≡_};
+ghost use Rattle.std.specs.declared.option.Option.the-variants.{Some};
+ghost use Rattle.script.specs.Mistakes.{textOf};
+use std::fmt;
+
+/// What is wrong with a line of a script.
+#[derive(Clone, Copy, PartialEq, Eq, Debug)]
+pub enum Mistake {
+    /// The first word names no command.
+    UnknownCommand,
+    /// The command wants more words.
+    MissingWord,
+    /// The command wants fewer words.
+    ExtraWord,
+    /// The word where a turn rule is wanted names none.
+    UnknownRule,
+    /// The word where a number is wanted is not made of digits.
+    NotANumber,
+    /// The number is too large for what it stands for.
+    NumberTooLarge,
+    /// The command wants a mesh, and none has been made.
+    NoMesh,
+}
+
+impl Mistake {
+    /// What is wrong, in a few words.
+    pub fn text(self) -> &'static str
+        ensures { λ r. ⌜ now r ≡ textOf self ⌝ }
+    {
+        match self {
+            Mistake::UnknownCommand => "unknown command",
+            Mistake::MissingWord => "a word is missing",
+            Mistake::ExtraWord => "a word too many",
+            Mistake::UnknownRule => "unknown rule",
+            Mistake::NotANumber => "not a number",
+            Mistake::NumberTooLarge => "number too large",
+            Mistake::NoMesh => "no mesh",
+        }
+    }
+}
+
+pub impl fmt::Display for Mistake as MistakeDisplay {
+    ghost shown = { λ mistake. Some (textOf mistake) };
+
+    fn fmt<W: fmt::Write>(&self, f: &mut fmt::Formatter<W>) -> fmt::Result {
+        f.write_str(self.text())
+    }
+}

@@ -1,0 +1,60 @@
+-- What a session answers, and what it has at hand afterwards. Assumes nothing.
+use mathlib.Core.Path.{_≡_}
+use mathlib.Core.List.{List}
+use mathlib.Core.Logic.{_⊎_}
+use Prim.Native.Nat.{ℕ}
+use Rattle.std.specs.Options.{mapped}
+use Rattle.std.specs.declared.option.Option.{Option}
+use Rattle.std.specs.declared.option.Option.the-variants.{None, Some}
+use Rattle.std.specs.declared.result.Result.{Result}
+use Rattle.std.specs.declared.result.Result.the-variants.{Ok, Err}
+use Rattle.refusals.specs.declared.refusal.Refusal.the-variants.{MeshSize}
+use Rattle.layouts.specs.Layout.{Meaning}
+use Rattle.layouts.specs.Mesh.{InRange}
+use Rattle.layouts.specs.Meshes.{meaningOf, meshMeaning}
+use Rattle.layouts.specs.declared.turn_rule.TurnRule.{TurnRule}
+use Rattle.script.specs.declared.command.Command.{Command}
+use Rattle.script.specs.declared.command.Command.the-variants as command
+use Rattle.script.specs.declared.mistake.Mistake.{Mistake}
+use Rattle.script.specs.declared.mistake.Mistake.the-variants.{NoMesh}
+use Rattle.script.specs.Commands.{Read, commandOf}
+use Rattle.script.specs.Words.{wordsOf}
+use Rattle.session.specs.declared.answer.Answer.{Answer}
+use Rattle.session.specs.declared.answer.Answer.the-variants.{Made, Ends, Turn, Refused}
+use Rattle.session.specs.declared.answer.Reply.{Reply}
+use Rattle.session.specs.declared.answer.Reply.the-variants as reply
+use Rattle.session.specs.declared.session.Session.{Session}
+
+-- what is at hand: the meaning of the mesh made last
+abbrev pub Hand : Type 0
+Hand = Option Meaning
+
+abbrev pub meshOf : Session → Hand
+meshOf s = mapped meaningOf (s .mesh)
+
+-- a mesh is made where its size is in range; else the refusal leaves what is at hand
+abbrev pub Makes : Hand → TurnRule → ℕ → ℕ → Answer → Hand → Type 0
+Makes before rule w h r after =
+    (InRange w h × (r ≡ Made (meshMeaning rule w h .tiles) (meshMeaning rule w h .links)) × (after ≡ Some (meshMeaning rule w h)))
+    ⊎ ((InRange w h → ⊥) × (r ≡ Refused MeshSize) × (after ≡ before))
+
+abbrev pub Answers : Hand → Command → Read Answer → Hand → Type 0
+Answers before (command.Mesh rule w h) r after = (a : Answer) × (r ≡ Ok a) × Makes before rule w h a after
+Answers None (command.Link k) r after = (r ≡ Err NoMesh) × (after ≡ None)
+Answers (Some m) (command.Link k) r after = (r ≡ Ok (Ends (m .start k) (m .end k))) × (after ≡ Some m)
+Answers None (command.Turn a b) r after = (r ≡ Err NoMesh) × (after ≡ None)
+Answers (Some m) (command.Turn a b) r after = (r ≡ Ok (Turn (m .turn a b))) × (after ≡ Some m)
+
+-- what is printed for the outcome of a line
+abbrev pub replyOf : ℕ → Read Answer → Reply
+replyOf n (Ok a) = reply.Answer a
+replyOf n (Err m) = reply.Mistake n m
+
+-- the reply to a line that reads as a command, as none, or not at all
+abbrev pub RepliesTo : Hand → ℕ → Read (Option Command) → Option Reply → Hand → Type 0
+RepliesTo before n (Ok None) r after = (r ≡ None) × (after ≡ before)
+RepliesTo before n (Ok (Some c)) r after = (a : Read Answer) × (r ≡ Some (replyOf n a)) × Answers before c a after
+RepliesTo before n (Err m) r after = (r ≡ Some (reply.Mistake n m)) × (after ≡ before)
+
+abbrev pub Replies : Hand → ℕ → List ℕ → Option Reply → Hand → Type 0
+Replies before n line r after = RepliesTo before n (commandOf (wordsOf line)) r after

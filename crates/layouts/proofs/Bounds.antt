@@ -1,8 +1,8 @@
 -- How large the counts of a mesh are. Assumes nothing.
-use Prim.Native.Nat.{ℕ, _+_, _*_, _-_, _<_, _≤_}
+use Prim.Native.Nat.{ℕ, _*_, _-_, _≤_}
 use native.Mathlib.Omega.{arith}
 use Rattle.std.proofs.shelf.Bits.{mul-le}
-use Rattle.layouts.specs.Mesh.{InRange, level, upright}
+use Rattle.layouts.specs.Links.{InRange, level, upright}
 
 module _ (w h : ℕ) (r : InRange w h) where
   pub level-le : level w h ≤ 56

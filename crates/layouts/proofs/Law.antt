@@ -1,9 +1,8 @@
 -- A mesh keeps the law of layouts. Assumes nothing.
 use mathlib.Core.Path.{_≡_, refl, sym, ap, _∙_, subst}
-use mathlib.Core.Bool.{Bool, true, false, cond, not, _&&_}
+use mathlib.Core.Bool.{Bool, true, false, cond}
 use Prim.Native.Nat.{ℕ, _*_, _/_, _%_, _<_, _≤_}
 use native.Mathlib.Omega.{arith}
-use lib.Dec.{eqb}
 use Rattle.std.proofs.shelf.Bits.{div-mul-add, mod-mul-add}
 use Rattle.std.proofs.shelf.Tests.{eqb-true, eqb-false, and-parts, not-true}
 use Rattle.std.specs.declared.option.Option.{Option}
@@ -11,16 +10,16 @@ use Rattle.std.specs.declared.option.Option.the-variants.{None, Some}
 use Rattle.std.specs.Options.{mapped}
 use Rattle.layouts.specs.declared.direction.Direction.{Direction}
 use Rattle.layouts.specs.declared.direction.Direction.the-variants.{East, West, North, South}
-use Rattle.layouts.specs.declared.direction.MeshLink.{MeshLink}
-use Rattle.layouts.specs.declared.direction.Span.{Span}
+use Rattle.layouts.specs.declared.link.MeshLink.{MeshLink}
+use Rattle.layouts.specs.declared.link.Span.{Span}
 use Rattle.layouts.specs.declared.turn.Turn.the-variants.{Never, Free, Climb}
 use Rattle.layouts.specs.declared.turn_rule.TurnRule.{TurnRule}
-use Rattle.layouts.specs.Layout.{Lawful, Bounded}
-use Rattle.layouts.specs.Mesh.{InRange, tile, column, row, Leaves, Inside, startOf, endOf, spanOf, linkCount, linkAt, spanAt, numberOf}
+use Rattle.layouts.specs.Layout.{Lawful, Outside}
+use Rattle.layouts.specs.Links.{InRange, tile, column, row, Leaves, Inside, startOf, endOf, spanOf, linkCount, linkAt, spanAt}
 use Rattle.layouts.specs.Rules.{barred, heightOf, turnOf}
-use Rattle.layouts.specs.Meshes.{startAt, endAt, turnAt, heightAt, spanHeight, meshMeaning, IsMesh}
+use Rattle.layouts.specs.Mesh.{startAt, endAt, turnAt, heightAt, spanHeight, meshMeaning}
 use Rattle.layouts.proofs.Bounds.{level-le, level-ge, upright-le, tiles-le, tiles-ge}
-use Rattle.layouts.proofs.LinkNumbers.{Found, found, number-lt, at-number, start-lt, end-lt}
+use Rattle.layouts.proofs.LinkNumbers.{Found, found, start-lt, end-lt}
 use Rattle.layouts.proofs.Rising.{back, rising}
 
 -- what a turn says of the tests behind it
@@ -105,30 +104,12 @@ module _ (rule : TurnRule) (w h : ℕ) (r : InRange w h) where
   turn-to-none None = refl
   turn-to-none (Some p) = refl
 
-  pub mesh-bounded : Bounded (meshMeaning rule w h)
-  mesh-bounded =
+  pub mesh-outside : Outside (meshMeaning rule w h)
+  mesh-outside =
       let none : (k : ℕ) → linkCount w h ≤ k → spanAt w h k ≡ None = λ k. none-from k (linkAt w h k) (found w h r k) in
       record {
         no-start = λ k l. ap startAt (none k l);
         no-end = λ k l. ap endAt (none k l);
         no-turn-from = λ a b l. ap (λ p. turnAt rule p (spanAt w h b)) (none a l);
         no-turn-to = λ a b l. ap (turnAt rule (spanAt w h a)) (none b l) ∙ turn-to-none (spanAt w h a);
-      }
-
-  -- the mesh as its links tell it
-  each-number : (k : ℕ) (o : Option MeshLink) → Found w h k o → k < linkCount w h → (l : MeshLink) × Inside w h l × (numberOf w h l ≡ k)
-  each-number k None f l = absurd (omega arith)
-  each-number k (Some p) f l = (p, f .0, f .2)
-
-  pub is-mesh : IsMesh rule w h (meshMeaning rule w h)
-  is-mesh =
-      let at : (l : MeshLink) → Inside w h l → spanAt w h (numberOf w h l) ≡ Some (spanOf w l) = λ l i. ap (mapped (spanOf w)) (at-number w h r l i) in
-      record {
-        tiles = refl;
-        links = refl;
-        number = λ l i. number-lt w h r l i;
-        each = λ k. each-number k (linkAt w h k) (found w h r k);
-        start = λ l i. ap startAt (at l i);
-        end = λ l i. ap endAt (at l i);
-        turn = λ p q i j. ap (λ o. turnAt rule o (spanAt w h (numberOf w h q))) (at p i) ∙ ap (turnAt rule (Some (spanOf w p))) (at q j);
       }

@@ -1,18 +1,19 @@
 -- The numbers of a mesh's links: each number below the count is that of one link, and each link has its own. Assumes nothing.
-use mathlib.Core.Path.{_≡_, refl, ap, subst, _∙_}
-use mathlib.Core.Bool.{cond}
+use mathlib.Core.Path.{_≡_, refl, ap, _∙_}
 use Prim.Native.Nat.{ℕ, _+_, _*_, _-_, _/_, _%_, _<_, _≤_}
-use native.Mathlib.Nat.{mul-comm, zero-add}
+use native.Mathlib.Nat.{mul-comm}
 use native.Mathlib.Omega.{arith}
+use borrow.Author.Needs.{needs}
 use lib.Dec.{ltb}
 use Rattle.std.proofs.shelf.Bits.{div-below, mod-below, div-add-mod', div-mul-add, mod-mul-add, mul-add-lt}
-use Rattle.std.proofs.shelf.Tests.{cond-both, cond-true, cond-false, lt-ltb, le-ltb, ltb-true, ltb-false}
+use Rattle.std.proofs.shelf.Tests.{cond-both, ltb-true, ltb-false}
+use Rattle.std.proofs.shelf.Ways.{tells}
 use Rattle.std.specs.declared.option.Option.{Option}
 use Rattle.std.specs.declared.option.Option.the-variants.{None, Some}
 use Rattle.layouts.specs.declared.direction.Direction.{Direction}
 use Rattle.layouts.specs.declared.direction.Direction.the-variants.{East, West, North, South}
-use Rattle.layouts.specs.declared.direction.MeshLink.{MeshLink}
-use Rattle.layouts.specs.Mesh.{InRange, column, row, Inside, startOf, endOf, level, upright, linkCount, base, place, numberOf, meshLink, linkIn, linkAt}
+use Rattle.layouts.specs.declared.link.MeshLink.{MeshLink}
+use Rattle.layouts.specs.Links.{InRange, column, row, Inside, startOf, endOf, level, upright, linkCount, base, place, numberOf, meshLink, linkIn, linkAt}
 
 -- how many links a block has
 abbrev size : ℕ → ℕ → Direction → ℕ
@@ -35,17 +36,17 @@ module _ (w h : ℕ) (r : InRange w h) where
   in-block : (d : Direction) (j : ℕ) → j < size w h d → Inside w h (linkIn w d j) × (numberOf w h (linkIn w d j) ≡ base w h d + j)
   in-block East j l =
       let c = cell (w - 1) h j (omega arith) l in
-      (record { x-in = omega arith; y-in = omega arith; leaves = tt; x-next = omega arith; y-next = omega arith }, omega arith)
+      (search needs, omega arith)
   in-block West j l =
       let c = cell (w - 1) h j (omega arith) l in
-      (record { x-in = omega arith; y-in = omega arith; leaves = omega arith; x-next = omega arith; y-next = omega arith }, omega arith)
+      (search needs, omega arith)
   in-block North j l =
       let c = cell w (h - 1) j (omega arith) (omega (arith, mul-comm w (h - 1))) in
-      (record { x-in = omega arith; y-in = omega arith; leaves = tt; x-next = omega arith; y-next = omega arith }, omega arith)
+      (search needs, omega arith)
   in-block South j l =
       let c = cell w (h - 1) j (omega arith) (omega (arith, mul-comm w (h - 1))) in
       let e : j / w + 1 - 1 ≡ j / w = omega arith in
-      (record { x-in = omega arith; y-in = omega arith; leaves = omega arith; x-next = omega arith; y-next = omega arith }, omega (arith, ap (λ n. n * w) e))
+      (search needs, omega (arith, ap (λ n. n * w) e))
 
   -- each link has a place in its block
   of-block : (d : Direction) (x y : ℕ) → Inside w h (meshLink d x y) → (place w d x y < size w h d) × (linkIn w d (place w d x y) ≡ meshLink d x y)
@@ -76,41 +77,21 @@ module _ (w h : ℕ) (r : InRange w h) where
   pub found : (k : ℕ) → Found w h k (linkAt w h k)
   found k =
       cond-both (ltb k (base w h West)) _ _ (Found w h k)
-      (λ e. let a = ltb-true k (base w h West) e in found-in East k k a (omega arith))
-      (λ e. let a = ltb-false k (base w h West) e in cond-both (ltb k (base w h North)) _ _ (Found w h k)
-      (λ f. let b = ltb-true k (base w h North) f in found-in West (k - base w h West) k (omega arith) (omega arith))
-      (λ f. let b = ltb-false k (base w h North) f in cond-both (ltb k (base w h South)) _ _ (Found w h k)
-      (λ g. let c = ltb-true k (base w h South) g in found-in North (k - base w h North) k (omega arith) (omega arith))
-      (λ g. let c = ltb-false k (base w h South) g in cond-both (ltb k (linkCount w h)) _ _ (Found w h k)
-      (λ o. let d = ltb-true k (linkCount w h) o in found-in South (k - base w h South) k (omega arith) (omega arith))
+      (λ e. found-in East k k (ltb-true k (base w h West) e) (omega arith))
+      (λ e. cond-both (ltb k (base w h North)) _ _ (Found w h k)
+      (λ f. found-in West (k - base w h West) k (omega (arith, ltb-true, ltb-false)) (omega (arith, ltb-false)))
+      (λ f. cond-both (ltb k (base w h South)) _ _ (Found w h k)
+      (λ g. found-in North (k - base w h North) k (omega (arith, ltb-true, ltb-false)) (omega (arith, ltb-false)))
+      (λ g. cond-both (ltb k (linkCount w h)) _ _ (Found w h k)
+      (λ o. found-in South (k - base w h South) k (omega (arith, ltb-true, ltb-false)) (omega (arith, ltb-false)))
       (λ o. ltb-false k (linkCount w h) o))))
 
   -- the link at a place of a block is found at its number
   at-place : (d : Direction) (j : ℕ) → j < size w h d → linkAt w h (base w h d + j) ≡ Some (linkIn w d j)
-  at-place East j l =
-      cond-true (ltb (base w h East + j) (base w h West)) _ _ (lt-ltb _ _ (omega arith))
-      ∙ ap (λ n. Some (linkIn w East n)) (zero-add j)
-  at-place West j l =
-      let k = base w h West + j in
-      let e : k - base w h West ≡ j = omega arith in
-      cond-false (ltb k (base w h West)) _ _ (le-ltb _ _ (omega arith))
-      ∙ cond-true (ltb k (base w h North)) _ _ (lt-ltb _ _ (omega arith))
-      ∙ ap (λ n. Some (linkIn w West n)) e
-  at-place North j l =
-      let k = base w h North + j in
-      let e : k - base w h North ≡ j = omega arith in
-      cond-false (ltb k (base w h West)) _ _ (le-ltb _ _ (omega arith))
-      ∙ cond-false (ltb k (base w h North)) _ _ (le-ltb _ _ (omega arith))
-      ∙ cond-true (ltb k (base w h South)) _ _ (lt-ltb _ _ (omega arith))
-      ∙ ap (λ n. Some (linkIn w North n)) e
-  at-place South j l =
-      let k = base w h South + j in
-      let e : k - base w h South ≡ j = omega arith in
-      cond-false (ltb k (base w h West)) _ _ (le-ltb _ _ (omega arith))
-      ∙ cond-false (ltb k (base w h North)) _ _ (le-ltb _ _ (omega arith))
-      ∙ cond-false (ltb k (base w h South)) _ _ (le-ltb _ _ (omega arith))
-      ∙ cond-true (ltb k (linkCount w h)) _ _ (lt-ltb _ _ (omega arith))
-      ∙ ap (λ n. Some (linkIn w South n)) e
+  at-place East j l = let e : base w h East + j ≡ j = omega arith in grind (arith, tells)
+  at-place West j l = let e : base w h West + j - base w h West ≡ j = omega arith in grind (arith, tells)
+  at-place North j l = let e : base w h North + j - base w h North ≡ j = omega arith in grind (arith, tells)
+  at-place South j l = let e : base w h South + j - base w h South ≡ j = omega arith in grind (arith, tells)
 
   -- the link of a link's number is that link
   pub at-number : (l : MeshLink) → Inside w h l → linkAt w h (numberOf w h l) ≡ Some l

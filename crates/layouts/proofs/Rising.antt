@@ -7,7 +7,7 @@ use Rattle.layouts.specs.declared.direction.Direction.{Direction}
 use Rattle.layouts.specs.declared.direction.Direction.the-variants.{East, West, North, South}
 use Rattle.layouts.specs.declared.turn_rule.TurnRule.{TurnRule}
 use Rattle.layouts.specs.declared.turn_rule.TurnRule.the-variants.{Xy, WestFirst, NorthLast, NegativeFirst}
-use Rattle.layouts.specs.Mesh.{column, row, Leaves}
+use Rattle.layouts.specs.Links.{column, row, Leaves}
 use Rattle.layouts.specs.Rules.{barred, heightOf}
 
 abbrev pub back : Direction → Direction

@@ -2,7 +2,7 @@
 use mathlib.Core.Path.{_≡_}
 use Rattle.layouts.specs.declared.turn.Turn.the-variants.{Never, Free, Climb}
 use Rattle.layouts.specs.declared.turn_rule.TurnRule.the-variants.{Xy}
-use Rattle.layouts.specs.Meshes.{meshMeaning}
+use Rattle.layouts.specs.Mesh.{meshMeaning}
 
 abbrev pub SmallMesh : Type 0
 SmallMesh =

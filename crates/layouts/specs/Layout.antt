@@ -29,7 +29,7 @@ pub record Lawful (m : Meaning) : Type 0 where
   pub rises : (a b : ℕ) → m .turn a b ≡ Free → m .height a < m .height b
 
 -- Of a number that is no link's a layout tells tile 255 and *never*.
-pub record Bounded (m : Meaning) : Type 0 where
+pub record Outside (m : Meaning) : Type 0 where
   pub no-start : (k : ℕ) → m .links ≤ k → m .start k ≡ 255
   pub no-end : (k : ℕ) → m .links ≤ k → m .end k ≡ 255
   pub no-turn-from : (a b : ℕ) → m .links ≤ a → m .turn a b ≡ Never

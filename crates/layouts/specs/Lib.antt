@@ -1,6 +1,6 @@
 pub mod Layout
-pub mod Mesh
+pub mod Turns
+pub mod Links
 pub mod Rules
-pub mod Meshes
+pub mod Mesh
 pub mod Examples
-pub mod Words

@@ -1,108 +1,58 @@
--- The tiles and links of a mesh of width w and height h. Assumes nothing.
-use mathlib.Core.Bool.{cond}
-use Prim.Native.Nat.{ℕ, _+_, _*_, _-_, _/_, _%_, _<_, _≤_}
-use lib.Dec.{ltb}
+-- The meaning of a mesh under a turn rule. Assumes nothing.
+use mathlib.Core.Path.{_≡_}
+use Prim.Native.Nat.{ℕ, _*_, _<_}
 use Rattle.std.specs.declared.option.Option.{Option}
 use Rattle.std.specs.declared.option.Option.the-variants.{None, Some}
-use Rattle.std.specs.Options.{mapped}
-use Rattle.layouts.specs.declared.direction.Direction.{Direction}
-use Rattle.layouts.specs.declared.direction.Direction.the-variants.{East, West, North, South}
-use Rattle.layouts.specs.declared.direction.MeshLink.{MeshLink}
-use Rattle.layouts.specs.declared.direction.Span.{Span}
+use Rattle.layouts.specs.declared.link.MeshLink.{MeshLink}
+use Rattle.layouts.specs.declared.link.Span.{Span}
+use Rattle.layouts.specs.declared.mesh.Mesh.{Mesh}
+use Rattle.layouts.specs.declared.turn.Turn.{Turn}
+use Rattle.layouts.specs.declared.turn.Turn.the-variants.{Never}
+use Rattle.layouts.specs.declared.turn_rule.TurnRule.{TurnRule}
+use Rattle.layouts.specs.Layout.{Meaning}
+use Rattle.layouts.specs.Links.{Inside, linkCount, numberOf, startOf, endOf, spanOf, spanAt}
+use Rattle.layouts.specs.Rules.{turnOf, heightOf}
 
--- the sizes that a mesh may have
-abbrev pub InRange : ℕ → ℕ → Type 0
-InRange w h = (2 ≤ w) × (w ≤ 8) × (2 ≤ h) × (h ≤ 8)
+-- the answers at numbers of links, where None stands for a number that is no link's
+abbrev pub startAt : Option Span → ℕ
+startAt None = 255
+startAt (Some s) = s .start
 
--- the number of the tile in column x and row y
-abbrev pub tile : ℕ → ℕ → ℕ → ℕ
-tile w x y = y * w + x
+abbrev pub endAt : Option Span → ℕ
+endAt None = 255
+endAt (Some s) = s .end
 
--- the column and the row that one step leads to
-abbrev pub column : Direction → ℕ → ℕ
-column East x = x + 1
-column West x = x - 1
-column North x = x
-column South x = x
+abbrev pub turnAt : TurnRule → Option Span → Option Span → Turn
+turnAt rule None q = Never
+turnAt rule (Some p) None = Never
+turnAt rule (Some p) (Some q) = turnOf rule p q
 
-abbrev pub row : Direction → ℕ → ℕ
-row East y = y
-row West y = y
-row North y = y + 1
-row South y = y - 1
+abbrev pub spanHeight : TurnRule → Span → ℕ
+spanHeight rule s = heightOf rule (s .link .direction) (s .link .x) (s .link .y)
 
--- there is a column or row left to step to
-abbrev pub Leaves : Direction → ℕ → ℕ → Type 0
-Leaves East x y = Unit {0}
-Leaves West x y = 0 < x
-Leaves North x y = Unit {0}
-Leaves South x y = 0 < y
+abbrev pub heightAt : TurnRule → Option Span → ℕ
+heightAt rule None = 0
+heightAt rule (Some s) = spanHeight rule s
 
--- A link of the mesh leaves one of its tiles, and leads to one.
-pub record Inside (w h : ℕ) (l : MeshLink) : Type 0 where
-  pub x-in : l .x < w
-  pub y-in : l .y < h
-  pub leaves : Leaves (l .direction) (l .x) (l .y)
-  pub x-next : column (l .direction) (l .x) < w
-  pub y-next : row (l .direction) (l .y) < h
+abbrev pub meshMeaning : TurnRule → ℕ → ℕ → Meaning
+meshMeaning rule w h = record {
+  tiles = w * h;
+  links = linkCount w h;
+  start = λ k. startAt (spanAt w h k);
+  end = λ k. endAt (spanAt w h k);
+  turn = λ a b. turnAt rule (spanAt w h a) (spanAt w h b);
+  height = λ k. heightAt rule (spanAt w h k);
+}
 
--- the tile that a link leaves, and the one that it leads to
-abbrev pub startOf : ℕ → MeshLink → ℕ
-startOf w l = tile w (l .x) (l .y)
+abbrev pub meaningOf : Mesh → Meaning
+meaningOf m = meshMeaning (m .rule) (m .size .width) (m .size .height)
 
-abbrev pub endOf : ℕ → MeshLink → ℕ
-endOf w l = tile w (column (l .direction) (l .x)) (row (l .direction) (l .y))
-
-abbrev pub spanOf : ℕ → MeshLink → Span
-spanOf w l = record { link = l; start = startOf w l; end = endOf w l }
-
--- how many links lead east, and how many north; as many lead back
-abbrev pub level : ℕ → ℕ → ℕ
-level w h = h * (w - 1)
-
-abbrev pub upright : ℕ → ℕ → ℕ
-upright w h = w * (h - 1)
-
-abbrev pub linkCount : ℕ → ℕ → ℕ
-linkCount w h = 2 * level w h + 2 * upright w h
-
--- The links are numbered in four blocks, one to a direction, each row by row. Here is where a block begins.
-abbrev pub base : ℕ → ℕ → Direction → ℕ
-base w h East = 0
-base w h West = level w h
-base w h North = 2 * level w h
-base w h South = 2 * level w h + upright w h
-
--- the place of a link within its block; a stretch has one place in both directions
-abbrev pub place : ℕ → Direction → ℕ → ℕ → ℕ
-place w East x y = y * (w - 1) + x
-place w West x y = y * (w - 1) + (x - 1)
-place w North x y = y * w + x
-place w South x y = (y - 1) * w + x
-
--- the number of a link
-abbrev pub numberOf : ℕ → ℕ → MeshLink → ℕ
-numberOf w h l = base w h (l .direction) + place w (l .direction) (l .x) (l .y)
-
-abbrev pub meshLink : Direction → ℕ → ℕ → MeshLink
-meshLink d x y = record { direction = d; x = x; y = y }
-
--- the link at a place of a block
-abbrev pub linkIn : ℕ → Direction → ℕ → MeshLink
-linkIn w East j = meshLink East (j % (w - 1)) (j / (w - 1))
-linkIn w West j = meshLink West (j % (w - 1) + 1) (j / (w - 1))
-linkIn w North j = meshLink North (j % w) (j / w)
-linkIn w South j = meshLink South (j % w) (j / w + 1)
-
--- the link of a number, if there is one
-abbrev pub linkAt : ℕ → ℕ → ℕ → Option MeshLink
-linkAt w h k =
-    cond (ltb k (base w h West)) (Some (linkIn w East k))
-    (cond (ltb k (base w h North)) (Some (linkIn w West (k - base w h West)))
-    (cond (ltb k (base w h South)) (Some (linkIn w North (k - base w h North)))
-    (cond (ltb k (linkCount w h)) (Some (linkIn w South (k - base w h South)))
-    None)))
-
--- the same with the tiles that it joins
-abbrev pub spanAt : ℕ → ℕ → ℕ → Option Span
-spanAt w h k = mapped (spanOf w) (linkAt w h k)
+-- A meaning is that of the mesh of this rule, width and height: told by its links, and not by their numbers.
+pub record IsMesh (rule : TurnRule) (w h : ℕ) (m : Meaning) : Type 0 where
+  pub tiles : m .tiles ≡ w * h
+  pub links : m .links ≡ linkCount w h
+  pub number : (l : MeshLink) → Inside w h l → numberOf w h l < m .links
+  pub each : (k : ℕ) → k < m .links → (l : MeshLink) × Inside w h l × (numberOf w h l ≡ k)
+  pub start : (l : MeshLink) → Inside w h l → m .start (numberOf w h l) ≡ startOf w l
+  pub end : (l : MeshLink) → Inside w h l → m .end (numberOf w h l) ≡ endOf w l
+  pub turn : (p q : MeshLink) → Inside w h p → Inside w h q → m .turn (numberOf w h p) (numberOf w h q) ≡ turnOf rule (spanOf w p) (spanOf w q)

@@ -4,7 +4,7 @@ use Prim.Native.Nat.{ℕ, _+_, _*_, _-_}
 use lib.Dec.{eqb}
 use Rattle.layouts.specs.declared.direction.Direction.{Direction}
 use Rattle.layouts.specs.declared.direction.Direction.the-variants.{East, West, North, South}
-use Rattle.layouts.specs.declared.direction.Span.{Span}
+use Rattle.layouts.specs.declared.link.Span.{Span}
 use Rattle.layouts.specs.declared.turn.Turn.{Turn}
 use Rattle.layouts.specs.declared.turn.Turn.the-variants.{Never, Free, Climb}
 use Rattle.layouts.specs.declared.turn_rule.TurnRule.{TurnRule}

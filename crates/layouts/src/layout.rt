@@ -1,6 +1,6 @@
 // The interface of all layouts.
 ghost use mathlib.Core.Path.{_≡_};
-ghost use Rattle.layouts.specs.Layout.{Meaning, Lawful, Bounded};
+ghost use Rattle.layouts.specs.Layout.{Meaning, Lawful, Outside};
 use crate::turn::Turn;
 
 /// Tiles and one-way links, each numbered from 0, and a word for every two links in a row.
@@ -11,7 +11,7 @@ pub trait Layout {
 
     law lawful: { (layout : Self) → Lawful (meaning layout) };
 
-    law bounded: { (layout : Self) → Bounded (meaning layout) };
+    law outside: { (layout : Self) → Outside (meaning layout) };
 
     /// The count of tiles, 1 to 64.
     fn tiles(&self) -> u16

@@ -2,9 +2,10 @@
 pub mod direction;
 pub mod examples;
 pub mod layout;
+mod link;
 pub mod mesh;
-pub mod numbering;
-pub mod size;
+mod numbering;
+mod size;
 #[cfg(test)]
 mod tests;
 pub mod turn;

@@ -3,10 +3,10 @@ ghost use mathlib.Core.Path.{_≡_};
 ghost use Prim.Native.Nat.{_+_, _*_, _<_, _≤_};
 ghost use Rattle.std.specs.Results.{Cases};
 ghost use Rattle.refusals.specs.declared.refusal.Refusal.the-variants.{MeshSize};
-ghost use Rattle.layouts.specs.Mesh.{InRange, level, upright, linkCount, linkAt, spanAt};
+ghost use Rattle.layouts.specs.Links.{InRange, level, upright, linkCount, linkAt, spanAt};
 use crate::direction::Direction;
-use crate::direction::MeshLink;
-use crate::direction::Span;
+use crate::link::MeshLink;
+use crate::link::Span;
 use crate::size::Size;
 use refusals::refusal::Refusal;
 

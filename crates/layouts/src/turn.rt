@@ -1,6 +1,6 @@
 // What a layout tells of one link followed by another.
 ghost use Rattle.std.specs.declared.option.Option.the-variants.{Some};
-ghost use Rattle.layouts.specs.Words.{wordOf};
+ghost use Rattle.layouts.specs.Turns.{wordOf};
 use std::fmt;
 
 /// What a layout tells of a link a followed by a link b.

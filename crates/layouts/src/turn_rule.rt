@@ -2,7 +2,7 @@
 ghost use mathlib.Core.Path.{_≡_};
 ghost use Rattle.layouts.specs.Rules.{barred, turnOf};
 use crate::direction::Direction;
-use crate::direction::Span;
+use crate::link::Span;
 use crate::turn::Turn;
 
 /// Which turns of a mesh ask for a higher lane, so that no circle of links is left on one lane.

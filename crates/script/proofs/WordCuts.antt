@@ -1,11 +1,9 @@
 -- A line's first word stands behind its blanks, up to the next byte that is no letter. Assumes nothing.
 use mathlib.Core.Path.{_≡_, refl, sym, ap, _∙_}
 use mathlib.Core.List.{List, [], _∷_, _++_, append-nil, append-assoc}
-use Prim.Native.Nat.{ℕ, suc, _≤_, _<_}
+use Prim.Native.Nat.{ℕ}
 use native.Mathlib.Omega.{arith}
 use lib.ListN.{length, take, drop}
-use lib.Seq.{length-take-le}
-use Rattle.script.specs.declared.bytes.Kind.{Kind}
 use Rattle.script.specs.declared.bytes.Kind.the-variants.{Blank, Hash, Letter}
 use Rattle.script.specs.Bytes.{kind, run}
 use Rattle.script.specs.Words.{ended, wordsAfter, wordsOf}

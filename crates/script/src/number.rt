@@ -1,6 +1,6 @@
 // Decimal numbers.
 ghost use mathlib.Core.Path.{_≡_};
-ghost use Rattle.script.specs.Numbers.{allDigits, within, decimalOf};
+ghost use Rattle.script.specs.Numbers.{allDigits, decimalOf};
 use crate::mistake::Mistake;
 
 // Whether every byte is a decimal digit.

@@ -1,6 +1,5 @@
 // The words of a line, one after another.
 ghost use mathlib.Core.Path.{_≡_};
-ghost use mathlib.Core.List.{[]};
 ghost use Rattle.script.specs.Words.{wordsOf, HandsOut};
 use crate::bytes::Kind;
 

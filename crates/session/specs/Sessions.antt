@@ -6,12 +6,11 @@ use Prim.Native.Nat.{ℕ}
 use Rattle.std.specs.Options.{mapped}
 use Rattle.std.specs.declared.option.Option.{Option}
 use Rattle.std.specs.declared.option.Option.the-variants.{None, Some}
-use Rattle.std.specs.declared.result.Result.{Result}
 use Rattle.std.specs.declared.result.Result.the-variants.{Ok, Err}
 use Rattle.refusals.specs.declared.refusal.Refusal.the-variants.{MeshSize}
 use Rattle.layouts.specs.Layout.{Meaning}
-use Rattle.layouts.specs.Mesh.{InRange}
-use Rattle.layouts.specs.Meshes.{meaningOf, meshMeaning}
+use Rattle.layouts.specs.Links.{InRange}
+use Rattle.layouts.specs.Mesh.{meaningOf, meshMeaning}
 use Rattle.layouts.specs.declared.turn_rule.TurnRule.{TurnRule}
 use Rattle.script.specs.declared.command.Command.{Command}
 use Rattle.script.specs.declared.command.Command.the-variants as command

@@ -4,7 +4,7 @@ use Prim.Native.Nat.{ℕ}
 use lib.Chars.{codes}
 use Rattle.std.specs.Written.{decimal}
 use Rattle.refusals.specs.Numbers.{numberOf}
-use Rattle.layouts.specs.Words.{wordOf}
+use Rattle.layouts.specs.Turns.{wordOf}
 use Rattle.script.specs.Mistakes.{textOf}
 use Rattle.session.specs.declared.answer.Answer.{Answer}
 use Rattle.session.specs.declared.answer.Answer.the-variants.{Made, Ends, Turn, Refused}

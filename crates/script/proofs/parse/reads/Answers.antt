@@ -2,7 +2,6 @@ use mathlib.Core.Path.{_≡_, subst}
 use Rattle.std.specs.Orderings.{Decides}
 use Rattle.std.proofs.shelf.Equals.{matches-decides, sameBytes-decides}
 use Rattle.std.proofs.shelf.Ways.{same-from-decides}
-use Rattle.std.specs.shelf.Text.{sameBytes}
 use Rattle.script.proofs.parse.reads.Needs as need
 
 pub returns : need.returns

@@ -1,8 +1,8 @@
 use mathlib.Core.Path.{_≡_, sym, ap, subst, _∙_}
 use native.Mathlib.Omega.{arith}
-use Rattle.layouts.specs.Mesh.{InRange}
-use Rattle.layouts.specs.Meshes.{IsMesh, meaningOf, meshMeaning}
-use Rattle.layouts.proofs.Law.{is-mesh}
+use Rattle.layouts.specs.Links.{InRange}
+use Rattle.layouts.specs.Mesh.{IsMesh, meshMeaning}
+use Rattle.layouts.proofs.ByLinks.{is-mesh}
 use Rattle.layouts.proofs.mesh.Mesh.new.Needs as need
 
 pub returns : need.returns

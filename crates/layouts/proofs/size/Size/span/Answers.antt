@@ -4,9 +4,9 @@ use Prim.Native.Nat.{ℕ, _+_, _*_, _<_, _≤_}
 use native.Mathlib.Omega.{arith}
 use Rattle.std.proofs.shelf.Bits.{mul-le}
 use Rattle.std.specs.declared.option.Option.the-variants.{Some}
-use Rattle.layouts.specs.declared.direction.MeshLink.{MeshLink}
+use Rattle.layouts.specs.declared.link.MeshLink.{MeshLink}
 use Rattle.layouts.specs.declared.direction.Direction.the-variants.{South}
-use Rattle.layouts.specs.Mesh.{InRange, Inside, Leaves, startOf, linkAt}
+use Rattle.layouts.specs.Links.{InRange, Inside, Leaves, linkAt}
 use Rattle.layouts.proofs.Bounds.{tiles-le}
 use Rattle.layouts.proofs.LinkNumbers.{Found, found, start-lt}
 use Rattle.layouts.proofs.size.Size.span.Needs as need

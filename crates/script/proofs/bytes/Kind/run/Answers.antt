@@ -1,7 +1,6 @@
 use mathlib.Core.Path.{_≡_}
-use Prim.Native.Nat.{_<_}
 use native.Mathlib.Omega.{arith}
-use lib.ListN.{length, getD}
+use lib.ListN.{getD}
 use Rattle.std.proofs.shelf.Lists.{at-drop-all}
 use Rattle.script.specs.Bytes.{kind, run}
 use Rattle.script.proofs.Runs.{run-on, run-end}

@@ -1,7 +1,6 @@
-use mathlib.Core.Path.{_≡_, sym, ap, _∙_}
+use mathlib.Core.Path.{sym, ap, _∙_}
 use lib.ListN.{length, take, drop}
 use Rattle.std.proofs.shelf.Tests.{eqb-true, eqb-false}
-use Rattle.script.specs.declared.bytes.Kind.the-variants.{Blank, Letter}
 use Rattle.script.specs.Bytes.{run}
 use Rattle.script.proofs.WordCuts.{Cut, next-none, next-some}
 use Rattle.script.proofs.words.Words.next.Needs as need

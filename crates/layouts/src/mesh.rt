@@ -19,7 +19,9 @@ pub struct Mesh {
 }
 
 impl Mesh {
-    /// Refuses a width or a height outside 2 to 8.
+    /// The mesh of a rule, a width and a height. Refuses a width or a height outside 2 to 8 by `MeshSize`.
+    ///
+    /// The mesh is told twice: by the numbers of its links, as it computes its answers, and by the links themselves.
     pub fn new(rule: TurnRule, width: u16, height: u16) -> Result<Mesh, Refusal>
         ensures value { λ r. ⌜ Cases r (λ m. InRange width height × (meaningOf m ≡ meshMeaning rule width height)) (λ e. (InRange width height → ⊥) × (e ≡ MeshSize)) ⌝ }
         ensures numbered { λ r. ⌜ made r (λ m. IsMesh rule width height (meaningOf m)) ⌝ }

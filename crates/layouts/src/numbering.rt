@@ -11,7 +11,7 @@ use crate::size::Size;
 use refusals::refusal::Refusal;
 
 impl Size {
-    /// Refuses a width or a height outside 2 to 8.
+    /// A size; a width or a height outside 2 to 8 is refused.
     pub(crate) fn new(width: u16, height: u16) -> Result<Size, Refusal>
         ensures { λ r. ⌜ Cases r (λ s. (s .width ≡ width) × (s .height ≡ height)) (λ e. (e ≡ MeshSize) × (InRange width height → ⊥)) ⌝ }
     {
@@ -23,14 +23,16 @@ impl Size {
 
     /// How many links lead east; as many lead west.
     fn level(&self) -> u16
-        ensures { λ r. ⌜ r ≡ level (now (self .entry) .width) (now (self .entry) .height) ⌝ ∗ ⌜ r ≤ 56 ⌝ }
+        ensures value { λ r. ⌜ r ≡ level (now (self .entry) .width) (now (self .entry) .height) ⌝ }
+        ensures bound { λ r. ⌜ r ≤ 56 ⌝ }
     {
         self.height * (self.width - 1)
     }
 
     /// How many links lead north; as many lead south.
     fn upright(&self) -> u16
-        ensures { λ r. ⌜ r ≡ upright (now (self .entry) .width) (now (self .entry) .height) ⌝ ∗ ⌜ r ≤ 56 ⌝ }
+        ensures value { λ r. ⌜ r ≡ upright (now (self .entry) .width) (now (self .entry) .height) ⌝ }
+        ensures bound { λ r. ⌜ r ≤ 56 ⌝ }
     {
         self.width * (self.height - 1)
     }

@@ -1,6 +1,6 @@
 -- Decimal numbers, read from the left. Assumes nothing.
 use mathlib.Core.Path.{_≡_, refl}
-use mathlib.Core.Bool.{true, false}
+use mathlib.Core.Bool.{true}
 use mathlib.Core.List.{List, [], _∷_}
 use Prim.Native.Nat.{ℕ, _+_, _*_, _-_, _<_, _≤_}
 use native.Mathlib.Omega.{arith}
@@ -8,17 +8,13 @@ use lib.ListN.{length}
 use lib.Dec.{leb}
 use Rattle.std.proofs.shelf.Tests.{cond-true, cond-false, le-leb, lt-leb}
 use Rattle.std.specs.declared.result.Result.the-variants.{Ok, Err}
-use Rattle.script.specs.declared.mistake.Mistake.the-variants.{NotANumber, NumberTooLarge}
+use Rattle.script.specs.declared.mistake.Mistake.the-variants.{NumberTooLarge}
 use Rattle.script.specs.Numbers.{allDigits, numberAfter, within, decimalOf}
 
 -- more digits make no smaller number
 pub number-ge : (n : ℕ) (bs : List ℕ) → n ≤ numberAfter n bs
 number-ge n [] = omega arith
 number-ge n (b ∷ bs) = omega (arith, number-ge (10 * n + (b - 48)) bs)
-
-pub no-number : (most : ℕ) (bs : List ℕ) → allDigits bs ≡ false → decimalOf most bs ≡ Err NotANumber
-no-number most [] e = refl
-no-number most (b ∷ bs) e = cond-false (allDigits (b ∷ bs)) _ _ e
 
 pub number-within : (most : ℕ) (bs : List ℕ) → (length bs ≡ 0 → ⊥) → allDigits bs ≡ true → decimalOf most bs ≡ within most (numberAfter 0 bs)
 number-within most [] some e = absurd (some refl)

@@ -42,37 +42,41 @@ abbrev pub behind : List (List ℕ) → List (List ℕ)
 behind [] = []
 behind (w ∷ ws) = ws
 
-abbrev pub rule : List (List ℕ) → Read TurnRule
-rule ws = first ruleOf ws
+abbrev pub firstRule : List (List ℕ) → Read TurnRule
+firstRule ws = first ruleOf ws
 
 -- a number of 16 bits
-abbrev pub number : List (List ℕ) → Read ℕ
-number ws = first (decimalOf 65535) ws
+abbrev pub firstNumber : List (List ℕ) → Read ℕ
+firstNumber ws = first (decimalOf 65535) ws
 
-abbrev pub end : List (List ℕ) → Read (Unit {0})
-end [] = Ok tt
-end (w ∷ ws) = Err ExtraWord
+abbrev pub nothingMore : List (List ℕ) → Read (Unit {0})
+nothingMore [] = Ok tt
+nothingMore (w ∷ ws) = Err ExtraWord
 
--- what stands behind each command's name
-abbrev pub mesh : List (List ℕ) → Read Command
-mesh ws =
-    then (rule ws) (λ r. then (number (behind ws)) (λ w. then (number (behind (behind ws))) (λ h.
-    then (end (behind (behind (behind ws)))) (λ _. Ok (Mesh r w h)))))
+-- mesh RULE WIDTH HEIGHT, without its name
+abbrev pub meshCommand : List (List ℕ) → Read Command
+meshCommand ws =
+    then (firstRule ws) (λ rule. then (firstNumber (behind ws)) (λ w. then (firstNumber (behind (behind ws))) (λ h.
+    then (nothingMore (behind (behind (behind ws)))) (λ _. Ok (Mesh rule w h)))))
 
-abbrev pub link : List (List ℕ) → Read Command
-link ws = then (number ws) (λ k. then (end (behind ws)) (λ _. Ok (Link k)))
+-- link K
+abbrev pub linkCommand : List (List ℕ) → Read Command
+linkCommand ws = then (firstNumber ws) (λ k. then (nothingMore (behind ws)) (λ _. Ok (Link k)))
 
-abbrev pub turn : List (List ℕ) → Read Command
-turn ws = then (number ws) (λ a. then (number (behind ws)) (λ b. then (end (behind (behind ws))) (λ _. Ok (Turn a b))))
+-- turn A B
+abbrev pub turnCommand : List (List ℕ) → Read Command
+turnCommand ws =
+    then (firstNumber ws) (λ a. then (firstNumber (behind ws)) (λ b.
+    then (nothingMore (behind (behind ws))) (λ _. Ok (Turn a b))))
 
-abbrev pub named : List ℕ → List (List ℕ) → Read Command
-named name ws =
-    cond (sameBytes name (codes "mesh")) (mesh ws)
-    (cond (sameBytes name (codes "link")) (link ws)
-    (cond (sameBytes name (codes "turn")) (turn ws)
+abbrev pub namedCommand : List ℕ → List (List ℕ) → Read Command
+namedCommand name ws =
+    cond (sameBytes name (codes "mesh")) (meshCommand ws)
+    (cond (sameBytes name (codes "link")) (linkCommand ws)
+    (cond (sameBytes name (codes "turn")) (turnCommand ws)
     (Err UnknownCommand)))
 
 -- the command of a line, none where it has no word
 abbrev pub commandOf : List (List ℕ) → Read (Option Command)
 commandOf [] = Ok None
-commandOf (name ∷ ws) = then (named name ws) (λ c. Ok (Some c))
+commandOf (name ∷ ws) = then (namedCommand name ws) (λ c. Ok (Some c))

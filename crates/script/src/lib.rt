@@ -4,4 +4,6 @@ pub mod command;
 pub mod mistake;
 pub mod number;
 pub mod parse;
+#[cfg(test)]
+mod tests;
 pub mod words;

@@ -2,7 +2,7 @@
 ghost use mathlib.Core.Path.{_≡_};
 ghost use Rattle.std.specs.shelf.Text.{sameBytes};
 ghost use Rattle.script.specs.Words.{wordsOf};
-ghost use Rattle.script.specs.Commands.{ruleOf, number, rule, end, behind, mesh, link, turn, named, commandOf};
+ghost use Rattle.script.specs.Commands.{ruleOf, firstRule, firstNumber, nothingMore, behind, meshCommand, linkCommand, turnCommand, namedCommand, commandOf};
 use crate::command::Command;
 use crate::mistake::Mistake;
 use crate::number::decimal;
@@ -36,7 +36,7 @@ fn turn_rule(word: &[u8]) -> Result<TurnRule, Mistake>
 impl Words<'_> {
     // The next word as a turn rule.
     fn rule(&mut self) -> Result<TurnRule, Mistake>
-        ensures value { λ r. ⌜ r ≡ rule (wordsOf (now (now (self .entry) .rest))) ⌝ }
+        ensures value { λ r. ⌜ r ≡ firstRule (wordsOf (now (now (self .entry) .rest))) ⌝ }
         ensures after { λ _. ⌜ wordsOf (now (now (self .exit) .rest)) ≡ behind (wordsOf (now (now (self .entry) .rest))) ⌝ }
     {
         match self.next() {
@@ -47,7 +47,7 @@ impl Words<'_> {
 
     // The next word as a number of 16 bits.
     fn number(&mut self) -> Result<u16, Mistake>
-        ensures value { λ r. ⌜ r ≡ number (wordsOf (now (now (self .entry) .rest))) ⌝ }
+        ensures value { λ r. ⌜ r ≡ firstNumber (wordsOf (now (now (self .entry) .rest))) ⌝ }
         ensures after { λ _. ⌜ wordsOf (now (now (self .exit) .rest)) ≡ behind (wordsOf (now (now (self .entry) .rest))) ⌝ }
     {
         match self.next() {
@@ -58,7 +58,7 @@ impl Words<'_> {
 
     // That no word is left.
     fn end(&mut self) -> Result<(), Mistake>
-        ensures { λ r. ⌜ r ≡ end (wordsOf (now (now (self .entry) .rest))) ⌝ }
+        ensures { λ r. ⌜ r ≡ nothingMore (wordsOf (now (now (self .entry) .rest))) ⌝ }
     {
         match self.next() {
             Some(_) => Err(Mistake::ExtraWord),
@@ -66,8 +66,9 @@ impl Words<'_> {
         }
     }
 
+    // The words behind `mesh`: a rule, a width and a height.
     fn mesh(&mut self) -> Result<Command, Mistake>
-        ensures { λ r. ⌜ r ≡ mesh (wordsOf (now (now (self .entry) .rest))) ⌝ }
+        ensures { λ r. ⌜ r ≡ meshCommand (wordsOf (now (now (self .entry) .rest))) ⌝ }
     {
         let rule = self.rule()?;
         let width = self.number()?;
@@ -76,16 +77,18 @@ impl Words<'_> {
         Ok(Command::Mesh(rule, width, height))
     }
 
+    // The word behind `link`: a link.
     fn link(&mut self) -> Result<Command, Mistake>
-        ensures { λ r. ⌜ r ≡ link (wordsOf (now (now (self .entry) .rest))) ⌝ }
+        ensures { λ r. ⌜ r ≡ linkCommand (wordsOf (now (now (self .entry) .rest))) ⌝ }
     {
         let link = self.number()?;
         self.end()?;
         Ok(Command::Link(link))
     }
 
+    // The words behind `turn`: two links.
     fn turn(&mut self) -> Result<Command, Mistake>
-        ensures { λ r. ⌜ r ≡ turn (wordsOf (now (now (self .entry) .rest))) ⌝ }
+        ensures { λ r. ⌜ r ≡ turnCommand (wordsOf (now (now (self .entry) .rest))) ⌝ }
     {
         let from = self.number()?;
         let to = self.number()?;
@@ -96,7 +99,7 @@ impl Words<'_> {
 
 // The command of a name, with the words behind it.
 fn named(name: &[u8], words: &mut Words<'_>) -> Result<Command, Mistake>
-    ensures { λ r. ⌜ r ≡ named (now (name .entry)) (wordsOf (now (now (words .entry) .rest))) ⌝ }
+    ensures { λ r. ⌜ r ≡ namedCommand (now (name .entry)) (wordsOf (now (now (words .entry) .rest))) ⌝ }
 {
     if reads(name, "mesh") {
         words.mesh()

@@ -6,7 +6,7 @@ ghost use Rattle.script.specs.Bytes.{kind, run};
 
 /// What a byte is for in a line.
 #[derive(Clone, Copy, PartialEq, Eq)]
-pub enum Kind {
+pub(crate) enum Kind {
     /// A space, a tab, a carriage return or a line feed, which parts words.
     Blank,
     /// A `#`, which begins a comment.
@@ -17,7 +17,7 @@ pub enum Kind {
 
 impl Kind {
     /// The kind of a byte.
-    pub fn of(byte: u8) -> Kind
+    pub(crate) fn of(byte: u8) -> Kind
         ensures { λ r. ⌜ r ≡ kind byte ⌝ }
     {
         match byte {
@@ -28,7 +28,7 @@ impl Kind {
     }
 
     /// How many bytes at the front are of this kind.
-    pub fn run(self, bytes: &[u8]) -> usize
+    pub(crate) fn run(self, bytes: &[u8]) -> usize
         ensures value { λ r. ⌜ r ≡ run self (now (bytes .entry)) ⌝ }
         ensures bound { λ r. ⌜ r ≤ length (now (bytes .entry)) ⌝ }
     {

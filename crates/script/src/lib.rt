@@ -1,9 +1,9 @@
 // The planner's script: from the bytes of a line to a command, or to what is wrong with it.
-pub mod bytes;
+mod bytes;
 pub mod command;
 pub mod mistake;
-pub mod number;
+mod number;
 pub mod parse;
 #[cfg(test)]
 mod tests;
-pub mod words;
+mod words;

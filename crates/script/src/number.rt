@@ -16,7 +16,7 @@ fn all_digits(word: &[u8]) -> bool
 }
 
 /// The number that a word of digits writes, if it is at most `most`.
-pub fn decimal(word: &[u8], most: u32) -> Result<u32, Mistake>
+pub(crate) fn decimal(word: &[u8], most: u32) -> Result<u32, Mistake>
     ensures { λ r. ⌜ r ≡ decimalOf most (now (word .entry)) ⌝ }
 {
     if word.is_empty() || !all_digits(word) {

@@ -13,7 +13,7 @@ use Rattle.std.specs.declared.option.Option.the-variants.{None, Some}
 use Rattle.layouts.specs.declared.direction.Direction.{Direction}
 use Rattle.layouts.specs.declared.direction.Direction.the-variants.{East, West, North, South}
 use Rattle.layouts.specs.declared.link.MeshLink.{MeshLink}
-use Rattle.layouts.specs.Links.{InRange, column, row, Inside, startOf, endOf, level, upright, linkCount, base, place, numberOf, meshLink, linkIn, linkAt}
+use Rattle.layouts.specs.Links.{InRange, column, row, Inside, startOf, endOf, level, upright, linkCount, base, place, linkNumber, meshLink, linkIn, linkAt}
 
 -- how many links a block has
 abbrev size : ℕ → ℕ → Direction → ℕ
@@ -29,11 +29,11 @@ cell m n j p l = (mod-below j m p, div-below j m n p l, div-add-mod' j m)
 -- what a number tells of its link
 abbrev pub Found : ℕ → ℕ → ℕ → Option MeshLink → Type 0
 Found w h k None = linkCount w h ≤ k
-Found w h k (Some l) = Inside w h l × (k < linkCount w h) × (numberOf w h l ≡ k)
+Found w h k (Some l) = Inside w h l × (k < linkCount w h) × (linkNumber w h l ≡ k)
 
 module _ (w h : ℕ) (r : InRange w h) where
   -- each place of a block has a link
-  in-block : (d : Direction) (j : ℕ) → j < size w h d → Inside w h (linkIn w d j) × (numberOf w h (linkIn w d j) ≡ base w h d + j)
+  in-block : (d : Direction) (j : ℕ) → j < size w h d → Inside w h (linkIn w d j) × (linkNumber w h (linkIn w d j) ≡ base w h d + j)
   in-block East j l =
       let c = cell (w - 1) h j (omega arith) l in
       (search needs, omega arith)
@@ -94,10 +94,10 @@ module _ (w h : ℕ) (r : InRange w h) where
   at-place South j l = let e : base w h South + j - base w h South ≡ j = omega arith in grind (arith, tells)
 
   -- the link of a link's number is that link
-  pub at-number : (l : MeshLink) → Inside w h l → linkAt w h (numberOf w h l) ≡ Some l
+  pub at-number : (l : MeshLink) → Inside w h l → linkAt w h (linkNumber w h l) ≡ Some l
   at-number l i = let p = of-block (l .direction) (l .x) (l .y) i in at-place (l .direction) (place w (l .direction) (l .x) (l .y)) (p .0) ∙ ap Some (p .1)
 
-  pub number-lt : (l : MeshLink) → Inside w h l → numberOf w h l < linkCount w h
+  pub number-lt : (l : MeshLink) → Inside w h l → linkNumber w h l < linkCount w h
   number-lt l i = omega (arith, of-block (l .direction) (l .x) (l .y) i .0, block-end (l .direction))
 
   -- the tiles of a link that lies on the mesh

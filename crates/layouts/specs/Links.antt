@@ -81,8 +81,8 @@ place w North x y = y * w + x
 place w South x y = (y - 1) * w + x
 
 -- the number of a link
-abbrev pub numberOf : ℕ → ℕ → MeshLink → ℕ
-numberOf w h l = base w h (l .direction) + place w (l .direction) (l .x) (l .y)
+abbrev pub linkNumber : ℕ → ℕ → MeshLink → ℕ
+linkNumber w h l = base w h (l .direction) + place w (l .direction) (l .x) (l .y)
 
 abbrev pub meshLink : Direction → ℕ → ℕ → MeshLink
 meshLink d x y = record { direction = d; x = x; y = y }

@@ -10,7 +10,7 @@ use Rattle.layouts.specs.declared.turn.Turn.{Turn}
 use Rattle.layouts.specs.declared.turn.Turn.the-variants.{Never}
 use Rattle.layouts.specs.declared.turn_rule.TurnRule.{TurnRule}
 use Rattle.layouts.specs.Layout.{Meaning}
-use Rattle.layouts.specs.Links.{Inside, linkCount, numberOf, startOf, endOf, spanOf, spanAt}
+use Rattle.layouts.specs.Links.{Inside, linkCount, linkNumber, startOf, endOf, spanOf, spanAt}
 use Rattle.layouts.specs.Rules.{turnOf, heightOf}
 
 -- the answers at numbers of links, where None stands for a number that is no link's
@@ -51,8 +51,8 @@ meaningOf m = meshMeaning (m .rule) (m .size .width) (m .size .height)
 pub record IsMesh (rule : TurnRule) (w h : ℕ) (m : Meaning) : Type 0 where
   pub tiles : m .tiles ≡ w * h
   pub links : m .links ≡ linkCount w h
-  pub number : (l : MeshLink) → Inside w h l → numberOf w h l < m .links
-  pub each : (k : ℕ) → k < m .links → (l : MeshLink) × Inside w h l × (numberOf w h l ≡ k)
-  pub start : (l : MeshLink) → Inside w h l → m .start (numberOf w h l) ≡ startOf w l
-  pub end : (l : MeshLink) → Inside w h l → m .end (numberOf w h l) ≡ endOf w l
-  pub turn : (p q : MeshLink) → Inside w h p → Inside w h q → m .turn (numberOf w h p) (numberOf w h q) ≡ turnOf rule (spanOf w p) (spanOf w q)
+  pub number : (l : MeshLink) → Inside w h l → linkNumber w h l < m .links
+  pub each : (k : ℕ) → k < m .links → (l : MeshLink) × Inside w h l × (linkNumber w h l ≡ k)
+  pub start : (l : MeshLink) → Inside w h l → m .start (linkNumber w h l) ≡ startOf w l
+  pub end : (l : MeshLink) → Inside w h l → m .end (linkNumber w h l) ≡ endOf w l
+  pub turn : (p q : MeshLink) → Inside w h p → Inside w h q → m .turn (linkNumber w h p) (linkNumber w h q) ≡ turnOf rule (spanOf w p) (spanOf w q)

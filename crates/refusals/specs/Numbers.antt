@@ -3,5 +3,5 @@ use Prim.Native.Nat.{ℕ}
 use Rattle.refusals.specs.declared.refusal.Refusal.{Refusal}
 use Rattle.refusals.specs.declared.refusal.Refusal.the-variants.{MeshSize}
 
-abbrev pub numberOf : Refusal → ℕ
-numberOf MeshSize = 1
+abbrev pub refusalNumber : Refusal → ℕ
+refusalNumber MeshSize = 1

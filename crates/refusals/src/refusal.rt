@@ -1,6 +1,6 @@
 // The refusals, and the number by which each is told.
 ghost use mathlib.Core.Path.{_≡_};
-ghost use Rattle.refusals.specs.Numbers.{numberOf};
+ghost use Rattle.refusals.specs.Numbers.{refusalNumber};
 
 /// Why a call is declined.
 #[derive(Clone, Copy, PartialEq, Eq, Debug)]
@@ -12,7 +12,7 @@ pub enum Refusal {
 impl Refusal {
     /// The number that stands for the refusal in answers and in the documents.
     pub fn number(self) -> u8
-        ensures { λ r. ⌜ r ≡ numberOf self ⌝ }
+        ensures { λ r. ⌜ r ≡ refusalNumber self ⌝ }
     {
         match self {
             Refusal::MeshSize => 1,

@@ -3,7 +3,7 @@ use mathlib.Core.List.{List, _++_}
 use Prim.Native.Nat.{ℕ}
 use lib.Chars.{codes}
 use Rattle.std.specs.Written.{decimal}
-use Rattle.refusals.specs.Numbers.{numberOf}
+use Rattle.refusals.specs.Numbers.{refusalNumber}
 use Rattle.layouts.specs.Turns.{wordOf}
 use Rattle.script.specs.Mistakes.{textOf}
 use Rattle.session.specs.declared.answer.Answer.{Answer}
@@ -16,7 +16,7 @@ abbrev pub answerText : Answer → List ℕ
 answerText (Made tiles links) = codes "ok " ++ (decimal tiles ++ (codes " " ++ decimal links))
 answerText (Ends start end) = codes "ok " ++ (decimal start ++ (codes " " ++ decimal end))
 answerText (Turn turn) = wordOf turn
-answerText (Refused refusal) = codes "refused " ++ decimal (numberOf refusal)
+answerText (Refused refusal) = codes "refused " ++ decimal (refusalNumber refusal)
 
 -- error LINE: what is wrong
 abbrev pub replyText : Reply → List ℕ

@@ -7,10 +7,13 @@ use crate::turn::Turn;
 ///
 /// A layout is known by its meaning: its answers, and a height for each link that no call tells.
 pub trait Layout {
+    // what the layout answers, and how high its links lie
     ghost meaning: { Self → Meaning };
 
+    // the law of four rules
     law lawful: { (layout : Self) → Lawful (meaning layout) };
 
+    // the answers for numbers that are no link's
     law outside: { (layout : Self) → Outside (meaning layout) };
 
     /// The count of tiles, 1 to 64.

@@ -9,7 +9,8 @@ use lib.Dec.{leb}
 use Rattle.std.proofs.shelf.Tests.{cond-true, cond-false, le-leb, lt-leb}
 use Rattle.std.specs.declared.result.Result.the-variants.{Ok, Err}
 use Rattle.script.specs.declared.mistake.Mistake.the-variants.{NumberTooLarge}
-use Rattle.script.specs.Numbers.{allDigits, numberAfter, within, decimalOf}
+use Rattle.std.specs.shelf.Text.{allDigits}
+use Rattle.script.specs.Numbers.{numberAfter, within, decimalOf}
 
 -- more digits make no smaller number
 pub number-ge : (n : ℕ) (bs : List ℕ) → n ≤ numberAfter n bs

@@ -1,17 +1,13 @@
 -- Decimal numbers. Assumes nothing.
-use mathlib.Core.Bool.{Bool, true, cond, _&&_}
+use mathlib.Core.Bool.{cond}
 use mathlib.Core.List.{List, [], _∷_}
 use Prim.Native.Nat.{ℕ, _+_, _*_, _-_}
 use lib.Dec.{leb}
-use Rattle.std.specs.Text.{asciiDigit}
+use Rattle.std.specs.shelf.Text.{allDigits}
 use Rattle.std.specs.declared.result.Result.{Result}
 use Rattle.std.specs.declared.result.Result.the-variants.{Ok, Err}
 use Rattle.script.specs.declared.mistake.Mistake.{Mistake}
 use Rattle.script.specs.declared.mistake.Mistake.the-variants.{NotANumber, NumberTooLarge}
-
-abbrev pub allDigits : List ℕ → Bool
-allDigits [] = true
-allDigits (b ∷ bs) = asciiDigit b && allDigits bs
 
 -- the number that digits write, after those that write n
 abbrev pub numberAfter : ℕ → List ℕ → ℕ
@@ -22,6 +18,7 @@ numberAfter n (b ∷ bs) = numberAfter (10 * n + (b - 48)) bs
 abbrev pub within : ℕ → ℕ → Result ℕ Mistake
 within most n = cond (leb n most) (Ok n) (Err NumberTooLarge)
 
+-- the number that a word writes, if all its bytes are digits
 abbrev pub decimalOf : ℕ → List ℕ → Result ℕ Mistake
 decimalOf most [] = Err NotANumber
 decimalOf most (b ∷ bs) = cond (allDigits (b ∷ bs)) (within most (numberAfter 0 (b ∷ bs))) (Err NotANumber)

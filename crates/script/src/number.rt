@@ -1,6 +1,7 @@
 // Decimal numbers.
 ghost use mathlib.Core.Path.{_≡_};
-ghost use Rattle.script.specs.Numbers.{allDigits, decimalOf};
+ghost use Rattle.std.specs.shelf.Text.{allDigits};
+ghost use Rattle.script.specs.Numbers.{decimalOf};
 use crate::mistake::Mistake;
 
 // Whether every byte is a decimal digit.

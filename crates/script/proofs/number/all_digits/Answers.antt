@@ -3,7 +3,7 @@ use mathlib.Core.Bool.{_&&_}
 use Prim.Native.Nat.{_+_}
 use lib.ListN.{drop}
 use Rattle.std.proofs.shelf.Lists.{at-drop-more, at-drop-all}
-use Rattle.script.specs.Numbers.{allDigits}
+use Rattle.std.specs.shelf.Text.{allDigits}
 use Rattle.script.proofs.number.all_digits.Needs as need
 use Rattle.script.proofs.number.all_digits.Needs.{After-is-ascii-digit}
 

@@ -1,6 +1,6 @@
 use mathlib.Core.Path.{_≡_}
 use lib.ListN.{drop}
-use Rattle.script.specs.Numbers.{allDigits}
+use Rattle.std.specs.shelf.Text.{allDigits}
 use Rattle.script.proofs.number.all_digits.Given as given
 
 abbrev pub Inv-loop-byte : given.InvT-loop-byte

@@ -1,4 +1,4 @@
--- How large the counts of a mesh are. Assumes nothing.
+-- How large the counts of a mesh are.
 use Prim.Native.Nat.{ℕ, _*_, _-_, _≤_}
 use native.Mathlib.Omega.{arith}
 use Rattle.std.proofs.shelf.Bits.{mul-le}

@@ -1,4 +1,4 @@
--- The meaning of a mesh, told by its links. Assumes nothing.
+-- The meaning of a mesh, told by its links.
 use mathlib.Core.Path.{_≡_, refl, ap, _∙_}
 use Prim.Native.Nat.{ℕ, _<_}
 use native.Mathlib.Omega.{arith}

@@ -1,4 +1,4 @@
--- A mesh keeps the law of layouts. Assumes nothing.
+-- A mesh keeps the law of layouts.
 use mathlib.Core.Path.{_≡_, refl, sym, ap, _∙_, subst}
 use mathlib.Core.Bool.{Bool, true, false, cond}
 use Prim.Native.Nat.{ℕ, _*_, _/_, _%_, _<_, _≤_}

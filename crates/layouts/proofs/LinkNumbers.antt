@@ -1,4 +1,4 @@
--- The numbers of a mesh's links: each number below the count is that of one link, and each link has its own. Assumes nothing.
+-- The numbers of a mesh's links: each number below the count is that of one link, and each link has its own.
 use mathlib.Core.Path.{_≡_, refl, ap, _∙_}
 use Prim.Native.Nat.{ℕ, _+_, _*_, _-_, _/_, _%_, _<_, _≤_}
 use native.Mathlib.Nat.{mul-comm}

@@ -1,4 +1,4 @@
--- Under each turn rule the height rises at a turn that is not barred. Assumes nothing.
+-- Under each turn rule the height rises at a turn that is not barred.
 use mathlib.Core.Path.{_≡_}
 use mathlib.Core.Bool.{false}
 use Prim.Native.Nat.{ℕ, _<_}

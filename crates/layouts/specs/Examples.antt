@@ -1,4 +1,4 @@
--- The turns of the 2 × 2 mesh under the rule XY, computed. Assumes nothing.
+-- The turns of the 2 × 2 mesh under the rule XY, computed.
 use mathlib.Core.Path.{_≡_}
 use Rattle.layouts.specs.declared.turn.Turn.the-variants.{Never, Free, Climb}
 use Rattle.layouts.specs.declared.turn_rule.TurnRule.the-variants.{Xy}

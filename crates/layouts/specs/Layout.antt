@@ -1,4 +1,4 @@
--- What a layout means, and the law that it keeps. Assumes nothing.
+-- What a layout means, and the law that it keeps.
 use mathlib.Core.Path.{_≡_}
 use Prim.Native.Nat.{ℕ, _<_, _≤_}
 use Rattle.layouts.specs.declared.turn.Turn.{Turn}

@@ -1,4 +1,4 @@
--- The tiles and links of a mesh of width w and height h. Assumes nothing.
+-- The tiles and links of a mesh of width w and height h.
 use mathlib.Core.Bool.{cond}
 use Prim.Native.Nat.{ℕ, _+_, _*_, _-_, _/_, _%_, _<_, _≤_}
 use lib.Dec.{ltb}

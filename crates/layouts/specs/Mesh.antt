@@ -1,4 +1,4 @@
--- The meaning of a mesh under a turn rule. Assumes nothing.
+-- The meaning of a mesh under a turn rule.
 use mathlib.Core.Path.{_≡_}
 use Prim.Native.Nat.{ℕ, _*_, _<_}
 use Rattle.std.specs.declared.option.Option.{Option}

@@ -1,4 +1,4 @@
--- The turn rules: which turns each bars, and how high a link lies under it. Assumes nothing.
+-- The turn rules: which turns each bars, and how high a link lies under it.
 use mathlib.Core.Bool.{Bool, true, false, cond, not, _&&_, _||_}
 use Prim.Native.Nat.{ℕ, _+_, _*_, _-_}
 use lib.Dec.{eqb}

@@ -1,4 +1,4 @@
--- The word for each turn. Assumes nothing.
+-- The word for each turn.
 use mathlib.Core.List.{List}
 use Prim.Native.Nat.{ℕ}
 use lib.Chars.{codes}

@@ -1,4 +1,4 @@
--- The number of each refusal. Assumes nothing.
+-- The number of each refusal.
 use Prim.Native.Nat.{ℕ}
 use Rattle.refusals.specs.declared.refusal.Refusal.{Refusal}
 use Rattle.refusals.specs.declared.refusal.Refusal.the-variants.{MeshSize}

@@ -1,23 +1,17 @@
--- Decimal numbers, read from the left. Assumes nothing.
+-- Decimal numbers.
 use mathlib.Core.Path.{_≡_, refl}
 use mathlib.Core.Bool.{true}
 use mathlib.Core.List.{List, [], _∷_}
-use Prim.Native.Nat.{ℕ, _+_, _*_, _-_, _<_, _≤_}
-use native.Mathlib.Omega.{arith}
+use Prim.Native.Nat.{ℕ, _-_, _<_, _≤_}
 use lib.ListN.{length}
 use lib.Dec.{leb}
 use Rattle.std.proofs.shelf.Tests.{cond-true, cond-false, le-leb, lt-leb}
 use Rattle.std.specs.declared.result.Result.the-variants.{Ok, Err}
 use Rattle.script.specs.declared.mistake.Mistake.the-variants.{NumberTooLarge}
 use Rattle.std.specs.shelf.Text.{allDigits}
-use Rattle.script.specs.Numbers.{numberAfter, within, decimalOf}
+use Rattle.script.specs.Numbers.{written, within, decimalOf}
 
--- more digits make no smaller number
-pub number-ge : (n : ℕ) (bs : List ℕ) → n ≤ numberAfter n bs
-number-ge n [] = omega arith
-number-ge n (b ∷ bs) = omega (arith, number-ge (10 * n + (b - 48)) bs)
-
-pub number-within : (most : ℕ) (bs : List ℕ) → (length bs ≡ 0 → ⊥) → allDigits bs ≡ true → decimalOf most bs ≡ within most (numberAfter 0 bs)
+pub number-within : (most : ℕ) (bs : List ℕ) → (length bs ≡ 0 → ⊥) → allDigits bs ≡ true → decimalOf most bs ≡ within most (written bs)
 number-within most [] some e = absurd (some refl)
 number-within most (b ∷ bs) some e = cond-true (allDigits (b ∷ bs)) _ _ e
 

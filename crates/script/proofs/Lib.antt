@@ -1,3 +1,3 @@
-pub mod Runs
+pub mod SameKind
 pub mod WordCuts
 pub mod Decimals

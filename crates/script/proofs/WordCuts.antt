@@ -1,7 +1,8 @@
--- A line's first word stands behind its blanks, up to the next byte that is no letter. Assumes nothing.
+-- A line's first word stands behind its blanks, up to the next byte that is no letter.
 use mathlib.Core.Path.{_≡_, refl, sym, ap, _∙_}
 use mathlib.Core.List.{List, [], _∷_, _++_, append-nil, append-assoc}
 use Prim.Native.Nat.{ℕ}
+use native.Mathlib.Numerals.{one-add}
 use native.Mathlib.Omega.{arith}
 use lib.ListN.{length, take, drop}
 use Rattle.script.specs.declared.bytes.Kind.the-variants.{Blank, Hash, Letter}
@@ -17,11 +18,11 @@ by-kind b P blank hash letter =
 -- blanks ahead of a word do not count
 blanks-first : (bs : List ℕ) → wordsOf bs ≡ wordsOf (drop (run Blank bs) bs)
 blanks-first [] = refl
-blanks-first (b ∷ bs) = by-kind b _ (λ e. simp e (blanks-first bs)) (λ e. simp e refl) (λ e. simp e refl)
+blanks-first (b ∷ bs) = by-kind b _ (λ e. simp (e, one-add) (blanks-first bs)) (λ e. simp e refl) (λ e. simp e refl)
 
 blanks-all : (bs : List ℕ) → run Blank (drop (run Blank bs) bs) ≡ 0
 blanks-all [] = refl
-blanks-all (b ∷ bs) = by-kind b _ (λ e. simp e (blanks-all bs)) (λ e. simp e refl) (λ e. simp e refl)
+blanks-all (b ∷ bs) = by-kind b _ (λ e. simp (e, one-add) (blanks-all bs)) (λ e. simp e refl) (λ e. simp e refl)
 
 -- letters go on with the word so far, and what is behind them ends it
 letters-first : (w bs : List ℕ) → wordsAfter w bs ≡ ended (w ++ take (run Letter bs) bs) (wordsOf (drop (run Letter bs) bs))
@@ -30,7 +31,7 @@ letters-first w (b ∷ bs) =
     by-kind b _
     (λ e. simp (e, append-nil) refl)
     (λ e. simp (e, append-nil) refl)
-    (λ e. simp e (letters-first (w ++ b ∷ []) bs ∙ ap (λ v. ended v (wordsOf (drop (run Letter bs) bs))) (append-assoc w (b ∷ []) (take (run Letter bs) bs))))
+    (λ e. simp (e, one-add) (letters-first (w ++ b ∷ []) bs ∙ ap (λ v. ended v (wordsOf (drop (run Letter bs) bs))) (append-assoc w (b ∷ []) (take (run Letter bs) bs))))
 
 -- where neither a blank nor a letter comes first, no word is left
 none-left : (bs : List ℕ) → run Blank bs ≡ 0 → run Letter bs ≡ 0 → wordsOf bs ≡ []

@@ -1,8 +1,9 @@
--- The bytes of a line by their kind. Assumes nothing.
+-- The bytes of a line by their kind.
 use mathlib.Core.Bool.{Bool, true, false, cond, _||_}
-use mathlib.Core.List.{List, [], _∷_}
-use Prim.Native.Nat.{ℕ, suc}
+use mathlib.Core.List.{List}
+use Prim.Native.Nat.{ℕ}
 use lib.Dec.{eqb}
+use Rattle.std.specs.shelf.Lists.{leading}
 use Rattle.script.specs.declared.bytes.Kind.{Kind}
 use Rattle.script.specs.declared.bytes.Kind.the-variants.{Blank, Hash, Letter}
 
@@ -23,5 +24,4 @@ sameKind Letter Letter = true
 
 -- how many bytes at the front are of kind k
 abbrev pub run : Kind → List ℕ → ℕ
-run k [] = 0
-run k (b ∷ bs) = cond (sameKind k (kind b)) (suc (run k bs)) 0
+run k bs = leading (λ b. sameKind k (kind b)) bs

@@ -1,4 +1,4 @@
--- The command that the words of a line make. Assumes nothing.
+-- The command that the words of a line make.
 use mathlib.Core.Bool.{cond}
 use mathlib.Core.List.{List, [], _∷_}
 use Prim.Native.Nat.{ℕ}

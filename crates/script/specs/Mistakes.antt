@@ -1,4 +1,4 @@
--- What is said of each mistake. Assumes nothing.
+-- What is said of each mistake.
 use mathlib.Core.List.{List}
 use Prim.Native.Nat.{ℕ}
 use lib.Chars.{codes}

@@ -1,4 +1,4 @@
--- The words of a line. Assumes nothing.
+-- The words of a line.
 use mathlib.Core.Path.{_≡_}
 use mathlib.Core.List.{List, [], _∷_, _++_}
 use Prim.Native.Nat.{ℕ}

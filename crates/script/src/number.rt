@@ -25,7 +25,7 @@ pub(crate) fn decimal(word: &[u8], most: u32) -> Result<u32, Mistake>
     }
     let mut value: u64 = 0;
     for byte in word {
-        value = 10 * value + u64::from(byte.saturating_sub(b'0'));
+        value = value * 10 + u64::from(byte.saturating_sub(b'0'));
         if value > u64::from(most) {
             return Err(Mistake::NumberTooLarge);
         }

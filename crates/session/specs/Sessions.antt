@@ -1,4 +1,4 @@
--- What a session answers, and what it has at hand afterwards. Assumes nothing.
+-- What a session answers, and what it has at hand afterwards.
 use mathlib.Core.Path.{_≡_}
 use mathlib.Core.List.{List}
 use mathlib.Core.Logic.{_⊎_}

@@ -1,4 +1,4 @@
--- How answers are written. Assumes nothing.
+-- How answers are written.
 use mathlib.Core.List.{List, _++_}
 use Prim.Native.Nat.{ℕ}
 use lib.Chars.{codes}

@@ -10,6 +10,7 @@ use Rattle.layouts.specs.Links.{InRange, Inside, Leaves, linkAt}
 use Rattle.layouts.proofs.Bounds.{tiles-le}
 use Rattle.layouts.proofs.LinkNumbers.{Found, found, start-lt}
 use Rattle.layouts.proofs.size.Size.span.Needs as need
+use Rattle.layouts.proofs.size.Size.span.Needs.{In-Continue-link}
 
 module _ (w h : ℕ) (r : InRange w h) (k : ℕ) (l : MeshLink) (is : Some l ≡ linkAt w h k) where
   inside : Inside w h l
@@ -23,17 +24,21 @@ module _ (w h : ℕ) (r : InRange w h) (k : ℕ) (l : MeshLink) (is : Some l ≡
       let leaves : 0 < l .y = subst (λ d. Leaves d (l .x) (l .y)) e (inside .leaves) in
       omega (arith, mul-le 1 w (l .y) w leaves (omega arith))
 
+-- the start of the link at hand
+small : (c : In-Continue-link) → c .in-Continue-link .link .y * c .args .self .now .width + c .in-Continue-link .link .x < 64
+small c = start-small _ _ (c .args .self .now .ok) _ _ (c .in-Continue-link .ensures tt)
+
 pub mul-start : need.mul-start
-mul-start c = omega (arith, start-small _ _ (c .args .self .now .ok) _ _ (c .in-Continue-link .ensures tt))
+mul-start c = omega (arith, small (need.at·mul-start c .In-Continue-link))
 
 pub add-start : need.add-start
-add-start c = omega (arith, start-small _ _ (c .args .self .now .ok) _ _ (c .in-Continue-link .ensures tt))
+add-start c = omega (arith, small (need.at·add-start c .In-Continue-link))
 
 pub add-end : need.add-end
-add-end c = omega (arith, start-small _ _ (c .args .self .now .ok) _ _ (c .in-Continue-link .ensures tt))
+add-end c = omega (arith, small (need.at·add-end c .In-Continue-link))
 
 pub add-end-in-North : need.add-end-in-North
-add-end-in-North c = omega (arith, start-small _ _ (c .args .self .now .ok) _ _ (c .in-Continue-link .ensures tt))
+add-end-in-North c = omega (arith, small (need.at·add-end-in-North c .In-Continue-link))
 
 pub sub-end-in-South : need.sub-end-in-South
 sub-end-in-South c = start-south _ _ (c .args .self .now .ok) _ _ (c .in-Continue-link .ensures tt) (c .in-South .is)

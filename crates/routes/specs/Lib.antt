@@ -1,0 +1,5 @@
+pub mod Firsts
+pub mod Routes
+pub mod Loads
+pub mod Checks
+pub mod Acceptable

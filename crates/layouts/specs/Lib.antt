@@ -3,4 +3,3 @@ pub mod Turns
 pub mod Links
 pub mod Rules
 pub mod Mesh
-pub mod Examples

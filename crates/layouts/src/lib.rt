@@ -1,6 +1,5 @@
 // Layouts: which tiles and links there are, and how two links may follow each other.
 pub mod direction;
-pub mod examples;
 pub mod layout;
 mod link;
 pub mod mesh;

@@ -11,7 +11,7 @@ fn main(rt: LibcRuntime) -> io::Result<()> {
     for line in BufReader::new(rt.stdin()).split(rt.alloc(), b'\n') {
         let line = line?;
         number = number.saturating_add(1);
-        if let Some(reply) = session.reply(number, line.as_slice()) {
+        if let Some(reply) = session.reply(rt.alloc(), number, line.as_slice()) {
             println!(rt, "{reply}")?;
         }
     }

@@ -9,7 +9,7 @@ use lib.Dec.{eqb, ltb}
 use lib.ListN.{length, take}
 use Rattle.std.specs.shelf.Lists.{All}
 use Rattle.std.proofs.shelf.Lists.{length-take-le, getD-take}
-use Rattle.std.proofs.shelf.Tests.{both-ways, not-true, not-false, not-from-true, not-from-false, and-from, and-parts, and-right, or-parts, or-from, eqb-true, eqb-false, eq-eqb, ne-eqb, leb-true, le-leb, ltb-true, ltb-false, lt-ltb, le-ltb}
+use Rattle.std.proofs.shelf.Tests.{both-ways, not-true, not-false, not-from-true, not-from-false, and-from, and-parts, and-right, eqb-true, eqb-false, eq-eqb, ne-eqb, leb-true, le-leb, ltb-true, ltb-false, lt-ltb, le-ltb}
 use Rattle.std.specs.declared.option.Option.{Option}
 use Rattle.std.specs.declared.option.Option.the-variants.{None, Some}
 use Rattle.refusals.specs.declared.refusal.Refusal.{Refusal}
@@ -23,6 +23,7 @@ use Rattle.routes.specs.declared.stream.Request.{Request}
 use Rattle.routes.specs.Routes.{hopAt, uses}
 use Rattle.routes.specs.Checks.{Terms, unless, atHop, fieldChecks, never, lanesFit, fails, refusalOf, hopChecks, hopCheck, routeChecks, judgement}
 use Rattle.routes.specs.Acceptable.{Acceptable}
+use Rattle.routes.proofs.HopLists.{not-used, used-nowhere}
 use Rattle.routes.proofs.Firsts.{some≢none, first-none, first-all, first-below-none, none-below}
 
 -- A check that declines nothing is passed.
@@ -59,17 +60,7 @@ lanes-fit Never a b l c = le-leb a b l
 lanes-fit Free a b l c = le-leb a b l
 lanes-fit Climb a b l c = lt-ltb a b (c refl)
 
--- A link stands in a list exactly if a hop has it.
-not-used : (link : ℕ) (hops : List Hop) → uses link hops ≡ false → (j : ℕ) → j < length hops → hopAt hops j .link ≡ link → ⊥
-not-used link [] e j l same = omega arith
-not-used link (h ∷ hops) e zero l same = eqb-false (h .link) link (or-parts _ _ e .0) same
-not-used link (h ∷ hops) e (suc j) l same = not-used link hops (or-parts _ _ e .1) j (omega arith) same
-
-used-nowhere : (link : ℕ) (hops : List Hop) → ((j : ℕ) → j < length hops → hopAt hops j .link ≡ link → ⊥) → uses link hops ≡ false
-used-nowhere link [] none = refl
-used-nowhere link (h ∷ hops) none = or-from _ _ (ne-eqb (h .link) link (none 0 (omega arith))) (used-nowhere link hops (λ j l. none (suc j) (omega arith)))
-
--- The same of the hops ahead of hop k.
+-- A link stands ahead of hop k exactly if a hop ahead has it.
 module _ (link : ℕ) (hops : List Hop) (k : ℕ) (l : k < length hops) where
   same-link : (j : ℕ) → j < k → hopAt (take k hops) j .link ≡ hopAt hops j .link
   same-link j b = ap (λ (h : Hop). h .link) (getD-take k hops j _ b)

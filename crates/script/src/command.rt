@@ -3,9 +3,17 @@ use layouts::turn_rule::TurnRule;
 use layouts::turn_rule::TurnRuleDebug;
 use layouts::turn_rule::TurnRuleEq;
 use layouts::turn_rule::TurnRulePartialEq;
+use routes::hop::Hop;
+use routes::hop::HopDebug;
+use routes::hop::HopEq;
+use routes::hop::HopPartialEq;
+use routes::stream::Request;
+use routes::stream::RequestDebug;
+use routes::stream::RequestEq;
+use routes::stream::RequestPartialEq;
 
 /// A command of a script.
-#[derive(Clone, Copy, PartialEq, Eq, Debug)]
+#[derive(PartialEq, Eq, Debug, Drop)]
 pub enum Command {
     /// Make a mesh of a rule, a width and a height.
     Mesh(TurnRule, u16, u16),
@@ -13,4 +21,6 @@ pub enum Command {
     Link(u16),
     /// Tell the turn from one link to another.
     Turn(u16, u16),
+    /// Judge a route of these hops for what a stream asks for.
+    Judge(Request, Vec<Hop>),
 }

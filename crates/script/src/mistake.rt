@@ -1,7 +1,9 @@
 // What can be wrong with a line of a script.
 ghost use mathlib.Core.Path.{_≡_};
 ghost use Rattle.std.specs.declared.option.Option.the-variants.{Some};
+ghost use Rattle.script.specs.declared.mistake.Mistake.the-variants.{OutOfMemory};
 ghost use Rattle.script.specs.Mistakes.{textOf};
+use std::alloc::Refused;
 use std::fmt;
 
 /// What is wrong with a line of a script.
@@ -19,8 +21,12 @@ pub enum Mistake {
     NotANumber,
     /// The number is too large for what it stands for.
     NumberTooLarge,
+    /// The word where a hop is wanted has no dot.
+    NotAHop,
     /// The command wants a mesh, and none has been made.
     NoMesh,
+    /// There is no memory for what the line says.
+    OutOfMemory,
 }
 
 impl Mistake {
@@ -35,7 +41,9 @@ impl Mistake {
             Mistake::UnknownRule => "unknown rule",
             Mistake::NotANumber => "not a number",
             Mistake::NumberTooLarge => "number too large",
+            Mistake::NotAHop => "not a hop",
             Mistake::NoMesh => "no mesh",
+            Mistake::OutOfMemory => "out of memory",
         }
     }
 }
@@ -45,5 +53,13 @@ pub impl fmt::Display for Mistake as MistakeDisplay {
 
     fn fmt<W: fmt::Write>(&self, f: &mut fmt::Formatter<W>) -> fmt::Result {
         f.write_str(self.text())
+    }
+}
+
+pub impl<T: Drop> From<Refused<T>> for Mistake as MistakeFromRefused {
+    ghost converts = { λ _ mistake. mistake ≡ OutOfMemory };
+
+    fn from(_refused: Refused<T>) -> Mistake {
+        Mistake::OutOfMemory
     }
 }

@@ -3,7 +3,7 @@ ghost use Rattle.std.specs.declared.option.Option.the-variants.{Some};
 ghost use Rattle.session.specs.Texts.{answerText, replyText};
 use layouts::turn::Turn;
 use layouts::turn::TurnDisplay;
-use refusals::refusal::Refusal;
+use routes::declined::Declined;
 use script::mistake::Mistake;
 use script::mistake::MistakeDisplay;
 use std::fmt;
@@ -17,8 +17,10 @@ pub enum Answer {
     Ends(u16, u16),
     /// What is told of two links in a row.
     Turn(Turn),
-    /// The call was declined.
-    Refused(Refusal),
+    /// The route is acceptable.
+    Accepted,
+    /// The call was declined: why, and at which hop where one is told.
+    Refused(Declined),
 }
 
 pub impl fmt::Display for Answer as AnswerDisplay {
@@ -29,9 +31,13 @@ pub impl fmt::Display for Answer as AnswerDisplay {
             Answer::Made(tiles, links) => write!(f, "ok {tiles} {links}"),
             Answer::Ends(start, end) => write!(f, "ok {start} {end}"),
             Answer::Turn(turn) => write!(f, "{turn}"),
-            Answer::Refused(refusal) => {
-                let number = refusal.number();
-                write!(f, "refused {number}")
+            Answer::Accepted => write!(f, "ok"),
+            Answer::Refused(declined) => {
+                let number = declined.refusal.number();
+                match declined.hop {
+                    Some(hop) => write!(f, "refused {number} hop {hop}"),
+                    None => write!(f, "refused {number}"),
+                }
             }
         }
     }

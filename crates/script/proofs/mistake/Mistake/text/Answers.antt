@@ -20,5 +20,11 @@ returns-in-NotANumber c = sym (ap textOf (c .in-NotANumber .is))
 pub returns-in-NumberTooLarge : need.returns-in-NumberTooLarge
 returns-in-NumberTooLarge c = sym (ap textOf (c .in-NumberTooLarge .is))
 
+pub returns-in-NotAHop : need.returns-in-NotAHop
+returns-in-NotAHop c = sym (ap textOf (c .in-NotAHop .is))
+
 pub returns-in-NoMesh : need.returns-in-NoMesh
 returns-in-NoMesh c = sym (ap textOf (c .in-NoMesh .is))
+
+pub returns-in-OutOfMemory : need.returns-in-OutOfMemory
+returns-in-OutOfMemory c = sym (ap textOf (c .in-OutOfMemory .is))

@@ -1,0 +1,65 @@
+-- Worked examples. A mesh is 2 × 2 or 3 × 3, under the rule XY.
+use mathlib.Core.Path.{_≡_}
+use mathlib.Core.List.{List, [], _∷_}
+use Prim.Native.Nat.{ℕ}
+use Rattle.std.specs.declared.option.Option.{Option}
+use Rattle.std.specs.declared.option.Option.the-variants.{None, Some}
+use Rattle.refusals.specs.Numbers.{refusalNumber}
+use Rattle.layouts.specs.Layout.{Meaning}
+use Rattle.layouts.specs.Mesh.{meshMeaning}
+use Rattle.layouts.specs.declared.turn.Turn.the-variants.{Never, Free, Climb}
+use Rattle.layouts.specs.declared.turn_rule.TurnRule.the-variants.{Xy}
+use Rattle.routes.specs.declared.hop.Hop.{Hop}
+use Rattle.model.specs.Grid.{Setting}
+use Rattle.model.specs.Calls.{Call, opens, Answer, declined, done, moved, out}
+use Rattle.model.specs.Layouts.{onLayout}
+use Rattle.model.specs.Runs.{History, start, _▸_, answerTo}
+
+abbrev pub small : Meaning
+small = meshMeaning Xy 2 2
+
+abbrev pub SmallTurns : Type 0
+SmallTurns = (small .turn 0 5 ≡ Free) × (small .turn 5 3 ≡ Climb) × (small .turn 6 0 ≡ Climb) × (small .turn 0 2 ≡ Never)
+
+abbrev pub hop : ℕ → ℕ → Hop
+hop link lane = record { link = link; lane = lane }
+
+-- the call that opens a stream of a number, from a tile to another, with a demand
+abbrev pub opening : ℕ → ℕ → ℕ → ℕ → List Hop → Call ℕ
+opening n from to demand hops = opens n (record { source = from; target = to; demand = demand }) hops
+
+-- the number of a refusal, with the hop that it tells
+abbrev pub refusedBy : Answer ℕ → Option (ℕ × Option ℕ)
+refusedBy (declined d) = Some (refusalNumber (d .refusal), d .hop)
+refusedBy done = None
+refusedBy (moved n) = None
+refusedBy (out n x) = None
+
+-- The 2 × 2 mesh with two lanes: by links 5 and 3 from tile 1 to tile 2 the lane has to climb.
+abbrev pub twoLanes : Setting
+twoLanes = onLayout small 2 1 100 0
+
+abbrev pub SmallRoutes : Type 0
+SmallRoutes =
+    (refusedBy (answerTo twoLanes start (opening 0 1 2 1 (hop 5 0 ∷ (hop 3 0 ∷ [])))) ≡ Some (13, Some 1))
+    × (answerTo twoLanes start (opening 0 1 2 1 (hop 5 0 ∷ (hop 3 1 ∷ []))) ≡ done)
+
+-- The 3 × 3 mesh with one lane and a capacity of 100, and a stream of demand 80 open on links 0 and 13: on the same route
+-- there is space for 20 more, and not for 21.
+abbrev pub oneLane : Setting
+oneLane = onLayout (meshMeaning Xy 3 3) 1 1 100 0
+
+abbrev pub corner : List Hop
+corner = hop 0 0 ∷ (hop 13 0 ∷ [])
+
+abbrev pub loaded : History ℕ
+loaded = start ▸ opening 0 0 4 80 corner
+
+abbrev pub Loads : Type 0
+Loads =
+    (answerTo oneLane start (opening 0 0 4 80 corner) ≡ done)
+    × (answerTo oneLane loaded (opening 1 0 4 20 corner) ≡ done)
+    × (refusedBy (answerTo oneLane loaded (opening 1 0 4 21 corner)) ≡ Some (16, Some 0))
+
+abbrev pub WorkedExamples : Type 0
+WorkedExamples = SmallTurns × SmallRoutes × Loads

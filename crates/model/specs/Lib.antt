@@ -1,0 +1,6 @@
+pub mod Grid
+pub mod Sums
+pub mod Calls
+pub mod Layouts
+pub mod Runs
+pub mod Law

@@ -22,7 +22,7 @@ use Rattle.routes.specs.declared.hop.Hop.{Hop}
 use Rattle.routes.specs.declared.judge.Limits.{Limits}
 use Rattle.routes.specs.declared.stream.Request.{Request}
 use Rattle.routes.specs.Firsts.{firstOf, firstBelow}
-use Rattle.routes.specs.Routes.{hopAt, uses}
+use Rattle.routes.specs.Routes.{countFits, hopAt, uses}
 
 -- What a route is judged by: the layout, how many lanes a link has, what it can bear, and the load of each link.
 pub record Terms : Type 0 where
@@ -91,7 +91,7 @@ hopCheck t q hops c = atHop (refusalOf c) (firstBelow (length hops) (fails t q h
 
 -- what is asked of a route
 abbrev pub routeChecks : Terms → Request → List Hop → List (Option Declined)
-routeChecks t q hops = unless (ltb 0 (length hops) && leb (length hops) 24) HopCount ∷ map (hopCheck t q hops) hopChecks
+routeChecks t q hops = unless (countFits hops) HopCount ∷ map (hopCheck t q hops) hopChecks
 
 -- the first check that declines a stream of these fields and hops, if any does
 unfoldable pub judgement : Terms → Request → List Hop → Option Declined

@@ -1,8 +1,8 @@
 -- Hops, routes and streams.
-use mathlib.Core.Bool.{Bool, false, _||_}
+use mathlib.Core.Bool.{Bool, false, _&&_, _||_}
 use mathlib.Core.List.{List, [], _∷_}
-use Prim.Native.Nat.{ℕ, _≤_}
-use lib.Dec.{eqb}
+use Prim.Native.Nat.{ℕ}
+use lib.Dec.{eqb, leb, ltb}
 use lib.ListN.{length, getD, take}
 use Rattle.std.specs.Options.{mapped}
 use Rattle.std.specs.declared.option.Option.{Option}
@@ -17,8 +17,8 @@ abbrev pub hopsOf : Route → List Hop
 hopsOf r = take (r .count) (r .table)
 
 -- a route has 1 to 24 hops
-abbrev pub CountInRange : List Hop → Type 0
-CountInRange hops = (1 ≤ length hops) × (length hops ≤ 24)
+abbrev pub countFits : List Hop → Bool
+countFits hops = ltb 0 (length hops) && leb (length hops) 24
 
 -- hop k of a route, counted from 0
 abbrev pub hopAt : List Hop → ℕ → Hop

@@ -3,13 +3,13 @@ ghost use mathlib.Core.Path.{_≡_};
 ghost use mathlib.Core.List.{map};
 ghost use Prim.Native.Nat.{_<_};
 ghost use lib.ListN.{length};
-ghost use Rattle.std.specs.Results.{Cases};
 ghost use Rattle.routes.specs.Firsts.{firstOf, firstBelow};
-ghost use Rattle.routes.specs.Checks.{termsOf, fieldChecks, lanesFit, loadIn, fails, hopChecks, hopCheck, judgement, verdict};
-ghost use Rattle.routes.specs.Acceptable.{Acceptable};
+ghost use Rattle.routes.specs.Checks.{termsOf, fieldChecks, lanesFit, loadIn, fails, hopChecks, hopCheck, verdict};
+ghost use Rattle.routes.specs.Acceptable.{Judges};
 use crate::check::Check;
 use crate::declined::Declined;
 use crate::hop::Hop;
+use crate::route_hops::count_fits;
 use crate::stream::Request;
 use crate::stream::uses_link;
 use layouts::layout::Layout;
@@ -141,11 +141,10 @@ pub fn judge<L: Layout>(
     request: Request,
     hops: &[Hop],
 ) -> Result<(), Declined>
-    ensures answer { λ r. ⌜ r ≡ verdict (judgement (termsOf (meaning (now (layout .entry))) (limits .entry)) request (now (hops .entry))) ⌝ }
-    ensures meets { λ r. ⌜ Cases r (λ _. Acceptable (termsOf (meaning (now (layout .entry))) (limits .entry)) request (now (hops .entry))) (λ _. Acceptable (termsOf (meaning (now (layout .entry))) (limits .entry)) request (now (hops .entry)) → ⊥) ⌝ }
+    ensures { λ r. ⌜ Judges (termsOf (meaning (now (layout .entry))) (limits .entry)) request (now (hops .entry)) r ⌝ }
 {
     judge_fields(layout, request)?;
-    if hops.len() < 1 || hops.len() > 24 {
+    if !count_fits(hops) {
         return Err(Declined {
             refusal: Refusal::HopCount,
             hop: None,

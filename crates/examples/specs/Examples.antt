@@ -11,9 +11,10 @@ use Rattle.layouts.specs.declared.turn.Turn.the-variants.{Never, Free, Climb}
 use Rattle.layouts.specs.declared.turn_rule.TurnRule.the-variants.{Xy}
 use Rattle.routes.specs.declared.hop.Hop.{Hop}
 use Rattle.model.specs.Grid.{Setting}
-use Rattle.model.specs.Calls.{Call, opens, Answer, declined, done, moved, out}
+use Rattle.model.specs.Sums.{hopsAhead}
+use Rattle.model.specs.Calls.{Call, opens, closes, sends, steps, Answer, declined, done, moved, out}
 use Rattle.model.specs.Layouts.{onLayout}
-use Rattle.model.specs.Runs.{History, start, _▸_, answerTo}
+use Rattle.model.specs.Runs.{History, start, _▸_, after, answerTo, handedOutSince}
 
 abbrev pub small : Meaning
 small = meshMeaning Xy 2 2
@@ -61,5 +62,30 @@ Loads =
     × (answerTo oneLane loaded (opening 1 0 4 20 corner) ≡ done)
     × (refusedBy (answerTo oneLane loaded (opening 1 0 4 21 corner)) ≡ Some (16, Some 0))
 
+-- A run on the 2 × 2 mesh with one lane of depth 1. Stream 7 goes from tile 0 to tile 3 by links 0 and 5, and item 50 has
+-- gone on to link 5 when item 51 is sent. Then the first lane is full, its item is held, and the stream does not close
+-- before both are out.
+abbrev pub narrow : Setting
+narrow = onLayout small 1 1 100 8
+
+abbrev pub sentTwo : History ℕ
+sentTwo = start ▸ opening 7 0 3 1 (hop 0 0 ∷ (hop 5 0 ∷ [])) ▸ sends 7 50 ▸ steps 0 0 ▸ sends 7 51
+
+abbrev pub allOut : History ℕ
+allOut = sentTwo ▸ steps 5 0 ▸ steps 0 0 ▸ steps 5 0
+
+abbrev pub ShortRun : Type 0
+ShortRun =
+    (refusedBy (answerTo narrow start (sends 7 50)) ≡ Some (6, None))
+    × (refusedBy (answerTo narrow sentTwo (sends 7 52)) ≡ Some (19, None))
+    × (refusedBy (answerTo narrow sentTwo (steps 0 0)) ≡ Some (21, None))
+    × (refusedBy (answerTo narrow sentTwo (closes 7)) ≡ Some (18, None))
+    × (hopsAhead narrow (after narrow sentTwo) ≡ 3)
+    × (answerTo narrow sentTwo (steps 5 0) ≡ out 7 50)
+    × (refusedBy (answerTo narrow (sentTwo ▸ steps 5 0) (steps 5 0)) ≡ Some (20, None))
+    × (answerTo narrow (sentTwo ▸ steps 5 0) (steps 0 0) ≡ moved 7)
+    × (handedOutSince narrow 7 allOut ≡ 50 ∷ (51 ∷ []))
+    × (answerTo narrow allOut (closes 7) ≡ done)
+
 abbrev pub WorkedExamples : Type 0
-WorkedExamples = SmallTurns × SmallRoutes × Loads
+WorkedExamples = SmallTurns × SmallRoutes × Loads × ShortRun

@@ -95,6 +95,7 @@ module _ {T : Type 0} (S : Setting) (Held : (ℕ → Option OpenStream) → Type
   keeps past =
       let now = held-and-kept past in
       record {
+        items = items-after past;
         all-out = Iff·trans (omega (arith, items-after past)) (rests-without-items S Held safe (after S past) (now .0) (now .1));
         in-order = keeps-order past;
         hops = hops-after past;

@@ -9,7 +9,7 @@ use Rattle.std.specs.declared.option.Option.the-variants.{Some}
 use Rattle.layouts.specs.Layout.{Meaning, Lawful}
 use Rattle.routes.specs.Routes.{OpenStream}
 use Rattle.model.specs.Grid.{Setting, Grid}
-use Rattle.model.specs.Sums.{ofStream, hopsAhead}
+use Rattle.model.specs.Sums.{ofStream, itemCount, hopsAhead}
 use Rattle.model.specs.Calls.{Call, closes, steps, outcome}
 use Rattle.model.specs.Layouts.{onLayout}
 use Rattle.model.specs.Runs.{History, after, isDeclined, letIn, handedOut, stepsGone, hopsLetIn, letInSince, handedOutSince, thenSteps}
@@ -42,9 +42,11 @@ pub record KeepsPace {T : Type 0} (S : Setting) (past : History T) (more : List 
   pub at-most : stepsGone S (thenSteps past more) ≤ stepsGone S past + hopsAhead S (after S past)
   pub exactly : (stepsGone S (thenSteps past more) ≡ stepsGone S past + hopsAhead S (after S past)) ↔ NoLaneWillStep S (after S (thenSteps past more))
 
--- After a run: as many items were handed out as were let in exactly when no lane will step; each open stream keeps its
--- order; the hops ahead are the hops of all items let in less the steps that went; and they tell how many steps will go.
+-- After a run: the items on the grid are, in number, those let in less those handed out; as many were handed out as were
+-- let in exactly when no lane will step; each open stream keeps its order; the hops ahead are the hops of all items let in
+-- less the steps that went; and they tell how many steps will go.
 pub record Keeps {T : Type 0} (S : Setting) (past : History T) : Type 0 where
+  pub items : itemCount S (after S past) + length (handedOut S past) ≡ length (letIn S past)
   pub all-out : (length (letIn S past) ≡ length (handedOut S past)) ↔ NoLaneWillStep S (after S past)
   pub in-order : (n : ℕ) (s : OpenStream) → after S past .streams n ≡ Some s → KeepsOrder S past n
   pub hops : hopsAhead S (after S past) + stepsGone S past ≡ hopsLetIn S past

@@ -10,6 +10,7 @@ use Rattle.layouts.specs.Mesh.{meshMeaning}
 use Rattle.layouts.specs.declared.turn.Turn.the-variants.{Never, Free, Climb}
 use Rattle.layouts.specs.declared.turn_rule.TurnRule.the-variants.{Xy}
 use Rattle.routes.specs.declared.hop.Hop.{Hop}
+use Rattle.routes.specs.Routes.{hopOn}
 use Rattle.model.specs.Grid.{Setting}
 use Rattle.model.specs.Sums.{hopsAhead}
 use Rattle.model.specs.Calls.{Call, opens, closes, sends, steps, Answer, declined, done, moved, out}
@@ -22,12 +23,9 @@ small = meshMeaning Xy 2 2
 abbrev pub SmallTurns : Type 0
 SmallTurns = (small .turn 0 5 ≡ Free) × (small .turn 5 3 ≡ Climb) × (small .turn 6 0 ≡ Climb) × (small .turn 0 2 ≡ Never)
 
-abbrev pub hop : ℕ → ℕ → Hop
-hop link lane = record { link = link; lane = lane }
-
 -- the call that opens a stream of a number, from a tile to another, with a demand
-abbrev pub opening : ℕ → ℕ → ℕ → ℕ → List Hop → Call ℕ
-opening n from to demand hops = opens n (record { source = from; target = to; demand = demand }) hops
+abbrev pub openCall : ℕ → ℕ → ℕ → ℕ → List Hop → Call ℕ
+openCall n from to demand hops = opens n (record { source = from; target = to; demand = demand }) hops
 
 -- the number of a refusal, with the hop that it tells
 abbrev pub refusedBy : Answer ℕ → Option (ℕ × Option ℕ)
@@ -42,8 +40,8 @@ twoLanes = onLayout small 2 1 100 0
 
 abbrev pub SmallRoutes : Type 0
 SmallRoutes =
-    (refusedBy (answerTo twoLanes start (opening 0 1 2 1 (hop 5 0 ∷ (hop 3 0 ∷ [])))) ≡ Some (13, Some 1))
-    × (answerTo twoLanes start (opening 0 1 2 1 (hop 5 0 ∷ (hop 3 1 ∷ []))) ≡ done)
+    (refusedBy (answerTo twoLanes start (openCall 0 1 2 1 (hopOn 5 0 ∷ (hopOn 3 0 ∷ [])))) ≡ Some (13, Some 1))
+    × (answerTo twoLanes start (openCall 0 1 2 1 (hopOn 5 0 ∷ (hopOn 3 1 ∷ []))) ≡ done)
 
 -- The 3 × 3 mesh with one lane and a capacity of 100, and a stream of demand 80 open on links 0 and 13: on the same route
 -- there is space for 20 more, and not for 21.
@@ -51,16 +49,16 @@ abbrev pub oneLane : Setting
 oneLane = onLayout (meshMeaning Xy 3 3) 1 1 100 0
 
 abbrev pub corner : List Hop
-corner = hop 0 0 ∷ (hop 13 0 ∷ [])
+corner = hopOn 0 0 ∷ (hopOn 13 0 ∷ [])
 
 abbrev pub loaded : History ℕ
-loaded = start ▸ opening 0 0 4 80 corner
+loaded = start ▸ openCall 0 0 4 80 corner
 
-abbrev pub Loads : Type 0
-Loads =
-    (answerTo oneLane start (opening 0 0 4 80 corner) ≡ done)
-    × (answerTo oneLane loaded (opening 1 0 4 20 corner) ≡ done)
-    × (refusedBy (answerTo oneLane loaded (opening 1 0 4 21 corner)) ≡ Some (16, Some 0))
+abbrev pub LoadedOpenings : Type 0
+LoadedOpenings =
+    (answerTo oneLane start (openCall 0 0 4 80 corner) ≡ done)
+    × (answerTo oneLane loaded (openCall 1 0 4 20 corner) ≡ done)
+    × (refusedBy (answerTo oneLane loaded (openCall 1 0 4 21 corner)) ≡ Some (16, Some 0))
 
 -- A run on the 2 × 2 mesh with one lane of depth 1. Stream 7 goes from tile 0 to tile 3 by links 0 and 5, and item 50 has
 -- gone on to link 5 when item 51 is sent. Then the first lane is full, its item is held, and the stream does not close
@@ -69,7 +67,7 @@ abbrev pub narrow : Setting
 narrow = onLayout small 1 1 100 8
 
 abbrev pub sentTwo : History ℕ
-sentTwo = start ▸ opening 7 0 3 1 (hop 0 0 ∷ (hop 5 0 ∷ [])) ▸ sends 7 50 ▸ steps 0 0 ▸ sends 7 51
+sentTwo = start ▸ openCall 7 0 3 1 (hopOn 0 0 ∷ (hopOn 5 0 ∷ [])) ▸ sends 7 50 ▸ steps 0 0 ▸ sends 7 51
 
 abbrev pub allOut : History ℕ
 allOut = sentTwo ▸ steps 5 0 ▸ steps 0 0 ▸ steps 5 0
@@ -88,4 +86,4 @@ ShortRun =
     × (answerTo narrow allOut (closes 7) ≡ done)
 
 abbrev pub WorkedExamples : Type 0
-WorkedExamples = SmallTurns × SmallRoutes × Loads × ShortRun
+WorkedExamples = SmallTurns × SmallRoutes × LoadedOpenings × ShortRun

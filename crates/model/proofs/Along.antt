@@ -9,11 +9,11 @@ use Rattle.std.proofs.shelf.Lists.{append-nil, append-assoc}
 use Rattle.std.proofs.shelf.Tests.{cases-eq}
 use Rattle.std.proofs.shelf.Ways.{tells}
 use Rattle.routes.specs.declared.hop.Hop.{Hop}
-use Rattle.routes.specs.Routes.{uses}
+use Rattle.routes.specs.Routes.{uses, hopOn}
 use Rattle.model.specs.Grid.{Queue, put, hopsFrom}
 use Rattle.model.specs.Sums.{ofStream}
 use Rattle.model.proofs.Puts.{put-same, pushed}
-use Rattle.model.proofs.Routes.{hopOn, Apart, hopsFrom-inherits, unused-from, hopsFrom-here, hopsFrom-after}
+use Rattle.model.proofs.Routes.{Apart, hopsFrom-inherits, unused-from, hopsFrom-here, hopsFrom-after}
 use Rattle.model.proofs.StreamItems.{ofStream-append}
 
 -- the lists of the lanes of a route, put together

@@ -6,14 +6,13 @@ use native.Mathlib.Omega.{arith}
 use lib.ListN.{length}
 use Rattle.std.specs.declared.option.Option.{Option}
 use Rattle.routes.specs.declared.hop.Hop.{Hop}
-use Rattle.routes.specs.Routes.{OpenStream}
+use Rattle.routes.specs.Routes.{OpenStream, hopOn}
 use Rattle.model.specs.Grid.{Setting, Queue, Grid, assign, put, withQueue, enqueue, routeOf, hopsFrom}
 use Rattle.model.specs.Sums.{gridSum, one, itemCount, ahead, hopsAhead}
 use Rattle.model.specs.Calls.{Call, Outcome}
 use Rattle.model.specs.Runs.{entering, leaving, going, hopsEntering}
 use Rattle.model.specs.Law.{NoneOnGrid}
 use Rattle.model.proofs.Puts.{assign-other}
-use Rattle.model.proofs.Routes.{hopOn}
 use Rattle.model.proofs.GridSums.{gridSum-same, gridSum-push, gridSum-pop}
 use Rattle.model.proofs.StreamItems.{all-others}
 use Rattle.model.proofs.Kept.{first-on-route, Placed, Kept, Front, front-proper, next-on-route, closed-none, counted-none}

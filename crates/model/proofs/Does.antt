@@ -13,10 +13,10 @@ use Rattle.routes.specs.declared.declined.Declined.{Declined}
 use Rattle.routes.specs.declared.hop.Hop.{Hop}
 use Rattle.routes.specs.declared.stream.Request.{Request}
 use Rattle.routes.specs.Loads.{streamCount}
+use Rattle.routes.specs.Routes.{hopOn}
 use Rattle.model.specs.Grid.{Setting, Queue, Grid, withStream, withQueue, enqueue, enoughSlots, hasRoom, routeOf, second}
 use Rattle.model.specs.Sums.{itemCountOf}
 use Rattle.model.specs.Calls.{Call, opens, closes, sends, steps, declined, done, moved, out, Outcome, unlessDeclined, openRefusal, closeRefusal, roomAtFirst, enter, sendRefusal, forward, stepFront, stepping, outcome}
-use Rattle.model.proofs.Routes.{hopOn}
 use Rattle.model.proofs.Kept.{Kept, Front, all-placed}
 
 -- The outcome of a call: it is declined; or a stream is opened or closed; or an item is sent, passes to its next hop, or

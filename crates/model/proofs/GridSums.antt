@@ -5,10 +5,11 @@ use Prim.Native.Nat.{ℕ, _+_, _≤_}
 use native.Mathlib.Omega.{arith}
 use Rattle.std.specs.shelf.Lists.{All}
 use Rattle.routes.specs.declared.hop.Hop.{Hop}
+use Rattle.routes.specs.Routes.{hopOn}
 use Rattle.model.specs.Grid.{Setting, Queue, put}
 use Rattle.model.specs.Sums.{queueSum, gridSum}
 use Rattle.model.proofs.Puts.{put-same, put-other, pushed}
-use Rattle.model.proofs.Routes.{hopOn, OnGrid}
+use Rattle.model.proofs.Routes.{OnGrid}
 use Rattle.model.proofs.LaneSums.{sumOfLanes-zero, sumOfLanes-at, sumOfLanes-same, sumOfLanes-change}
 
 queueSum-append : {T : Type 0} (cost : (ℕ × T) → ℕ) (front back : Queue T) → queueSum cost (front ++ back) ≡ queueSum cost front + queueSum cost back

@@ -12,12 +12,12 @@ use Rattle.std.proofs.shelf.Ways.{tells}
 use Rattle.std.specs.Options.{isSome}
 use Rattle.std.specs.declared.option.Option.{Option}
 use Rattle.routes.specs.declared.hop.Hop.{Hop}
-use Rattle.routes.specs.Routes.{OpenStream}
+use Rattle.routes.specs.Routes.{OpenStream, hopOn}
 use Rattle.routes.specs.Loads.{streamCount}
 use Rattle.model.specs.Grid.{Setting, Queue, Grid, enoughSlots, routeOf, hopsFrom}
 use Rattle.model.specs.Sums.{ofStream, oneOf, itemCountOf}
 use Rattle.model.specs.Law.{NoneOnGrid}
-use Rattle.model.proofs.Routes.{hopOn, Proper, proper-from, hopsFrom-here, hopsFrom-next}
+use Rattle.model.proofs.Routes.{Proper, proper-from, hopsFrom-here, hopsFrom-next}
 use Rattle.model.proofs.GridSums.{gridSum-at}
 use Rattle.model.proofs.StreamItems.{ofStream-count}
 

@@ -6,8 +6,9 @@ use native.Mathlib.Omega.{arith}
 use Rattle.std.proofs.shelf.Tests.{cases-eq}
 use Rattle.routes.specs.declared.hop.Hop.{Hop}
 use Rattle.routes.specs.Loads.{sumBelow}
+use Rattle.routes.specs.Routes.{hopOn}
 use Rattle.model.specs.Grid.{Setting}
-use Rattle.model.proofs.Routes.{hopOn, OnGrid}
+use Rattle.model.proofs.Routes.{OnGrid}
 
 sumBelow-same : (n : ℕ) (f g : ℕ → ℕ) → ((k : ℕ) → k < n → f k ≡ g k) → sumBelow n f ≡ sumBelow n g
 sumBelow-same zero f g same = refl

@@ -10,10 +10,11 @@ use Rattle.std.proofs.shelf.Lists.{nil-from-length}
 use Rattle.std.proofs.shelf.Tests.{cases-bool, cases-lt}
 use Rattle.std.proofs.shelf.Ways.{tells}
 use Rattle.routes.specs.declared.hop.Hop.{Hop}
+use Rattle.routes.specs.Routes.{hopOn}
 use Rattle.model.specs.Grid.{Setting, Queue, Grid, enoughSlots, hasRoom, routeOf}
 use Rattle.model.specs.Calls.{stepping}
 use Rattle.model.specs.Law.{WillStep, NoLaneWillStep}
-use Rattle.model.proofs.Routes.{hopOn, OnGrid, hopsFrom-inherits}
+use Rattle.model.proofs.Routes.{OnGrid, hopsFrom-inherits}
 use Rattle.model.proofs.LaneSums.{sumOfLanes, sumOfLanes-at}
 use Rattle.model.proofs.Kept.{Kept, Front, all-placed, front-proper}
 use Rattle.model.proofs.Safe.{Rises}

@@ -12,9 +12,6 @@ use Rattle.routes.specs.declared.hop.Hop.{Hop}
 use Rattle.routes.specs.Routes.{uses}
 use Rattle.model.specs.Grid.{Setting, hopsFrom}
 
-abbrev pub hopOn : ℕ → ℕ → Hop
-hopOn link lane = record { link = link; lane = lane }
-
 abbrev pub OnGrid : Setting → Hop → Type 0
 OnGrid S h = (h .link < S .links) × (h .lane < S .lanes)
 

@@ -6,15 +6,15 @@ use lib.Dec.{eqb, ltb}
 use Rattle.std.specs.Options.{isSome}
 use Rattle.std.specs.declared.option.Option.{Option}
 use Rattle.std.specs.declared.option.Option.the-variants.{None, Some}
-use Rattle.refusals.specs.declared.refusal.Refusal.{Refusal}
 use Rattle.refusals.specs.declared.refusal.Refusal.the-variants.{TooFewSlots, NoSuchStream, AlreadyOpen, NotOpen, OffGrid, ItemsOnGrid, LaneFull, LaneEmpty, Held}
 use Rattle.routes.specs.declared.declined.Declined.{Declined}
 use Rattle.routes.specs.declared.hop.Hop.{Hop}
 use Rattle.routes.specs.declared.stream.Request.{Request}
 use Rattle.routes.specs.Firsts.{firstOf}
+use Rattle.routes.specs.Routes.{hopOn, onGrid}
 use Rattle.routes.specs.Loads.{streamCount}
-use Rattle.routes.specs.Checks.{unless}
-use Rattle.model.specs.Grid.{Setting, Queue, Grid, withStream, withQueue, enqueue, enoughSlots, onGrid, hasRoom, routeOf, nextHop}
+use Rattle.routes.specs.Checks.{noHop, unless}
+use Rattle.model.specs.Grid.{Setting, Queue, Grid, withStream, withQueue, enqueue, enoughSlots, hasRoom, routeOf, nextHop}
 use Rattle.model.specs.Sums.{itemCountOf}
 
 -- Open a stream of a number, with its fields and hops; close a stream; send an item of a stream; step a lane of a link.
@@ -36,13 +36,14 @@ pub record Outcome (T : Type 0) : Type 0 where
   pub answer : Answer T
   pub grid : Grid T
 
--- A call that is declined changes nothing.
-abbrev pub refuse : {T : Type 0} → Refusal → Grid T → Outcome T
-refuse refusal g = record { answer = declined (record { refusal = refusal; hop = None }); grid = g }
+-- a call that is declined changes nothing
+abbrev pub refuse : {T : Type 0} → Declined → Grid T → Outcome T
+refuse d g = record { answer = declined d; grid = g }
 
+-- what a call does if no check declines it
 abbrev pub unlessDeclined : {T : Type 0} → Option Declined → Grid T → Outcome T → Outcome T
 unlessDeclined None g outcome = outcome
-unlessDeclined (Some d) g outcome = record { answer = declined d; grid = g }
+unlessDeclined (Some d) g outcome = refuse d g
 
 -- Open.
 unfoldable pub openRefusal : {T : Type 0} → Setting → Grid T → ℕ → Request → List Hop → Option Declined
@@ -86,15 +87,15 @@ sending S g n x =
 abbrev pub forward : {T : Type 0} → Setting → Grid T → ℕ → ℕ → (ℕ × T) → Queue T → Option Hop → Outcome T
 forward S g link lane item rest None = record { answer = out (item .0) (item .1); grid = withQueue g link lane rest }
 forward S g link lane item rest (Some next) =
-    cond (hasRoom S g next) (record { answer = moved (item .0); grid = enqueue S (withQueue g link lane rest) next item }) (refuse Held g)
+    cond (hasRoom S g next) (record { answer = moved (item .0); grid = enqueue S (withQueue g link lane rest) next item }) (refuse (noHop Held) g)
 
 abbrev pub stepFront : {T : Type 0} → Setting → Grid T → ℕ → ℕ → Queue T → Outcome T
-stepFront S g link lane [] = refuse LaneEmpty g
+stepFront S g link lane [] = refuse (noHop LaneEmpty) g
 stepFront S g link lane (item ∷ rest) = forward S g link lane item rest (nextHop link (routeOf (g .streams (item .0))))
 
 unfoldable pub stepping : {T : Type 0} → Setting → Grid T → ℕ → ℕ → Outcome T
 stepping S g link lane =
-    unlessDeclined (firstOf (unless (enoughSlots S) TooFewSlots ∷ (unless (onGrid S link lane) OffGrid ∷ []))) g
+    unlessDeclined (firstOf (unless (enoughSlots S) TooFewSlots ∷ (unless (onGrid (S .links) (S .lanes) (hopOn link lane)) OffGrid ∷ []))) g
     (stepFront S g link lane (g .contents link lane))
 
 abbrev pub outcome : {T : Type 0} → Setting → Grid T → Call T → Outcome T

@@ -62,10 +62,6 @@ enqueue S g h item = record {
 abbrev pub enoughSlots : Setting → Bool
 enoughSlots S = leb (S .links * S .lanes * S .depth) (S .slots)
 
--- a link and a lane of the grid
-abbrev pub onGrid : Setting → ℕ → ℕ → Bool
-onGrid S link lane = ltb link (S .links) && ltb lane (S .lanes)
-
 -- the lane of a hop is not full
 abbrev pub hasRoom : {T : Type 0} → Setting → Grid T → Hop → Bool
 hasRoom S g h = ltb (length (g .contents (h .link) (h .lane))) (S .depth)

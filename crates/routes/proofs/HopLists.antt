@@ -10,7 +10,7 @@ use lib.ListN.{length, drop, length-append, length-drop}
 use Rattle.std.proofs.shelf.Tests.{or-parts, or-from, eqb-false, ne-eqb}
 use Rattle.std.proofs.shelf.Lists.{at-drop-more, at-drop-all}
 use Rattle.routes.specs.declared.hop.Hop.{Hop}
-use Rattle.routes.specs.Routes.{hopAt, uses}
+use Rattle.routes.specs.Routes.{hopOn, hopAt, uses}
 
 -- A link stands in a list exactly if a hop has it.
 pub not-used : (link : ℕ) (hops : List Hop) → uses link hops ≡ false → (j : ℕ) → j < length hops → hopAt hops j .link ≡ link → ⊥
@@ -25,7 +25,7 @@ used-nowhere link (h ∷ hops) none = or-from _ _ (ne-eqb (h .link) link (none 0
 module _ (link : ℕ) (hops : List Hop) (i : ℕ) (left : uses link (drop i hops) ≡ uses link hops) where
   -- the hop at hand and those behind it
   pub uses-more : i < length hops → (eqb (hopAt hops i .link) link || uses link (drop (i + 1) hops)) ≡ uses link hops
-  uses-more l = sym (at-drop-more (uses link) hops i (record { link = 0; lane = 0 }) l) ∙ left
+  uses-more l = sym (at-drop-more (uses link) hops i (hopOn 0 0) l) ∙ left
 
   pub uses-none : length hops ≤ i → uses link hops ≡ false
   uses-none l = sym left ∙ at-drop-all (uses link) hops i l

@@ -39,21 +39,21 @@ nowhere r None e = refl
 nowhere r (Some k) e = absurd (some≢none _ e)
 
 -- What a turn and two lanes say.
-is-never : (w : Turn) → never w ≡ false → w ≡ Never → ⊥
-is-never w e n = both-ways (never w) e (ap never n)
+never-false : (w : Turn) → never w ≡ false → w ≡ Never → ⊥
+never-false w e n = both-ways (never w) e (ap never n)
 
-not-never : (w : Turn) → (w ≡ Never → ⊥) → never w ≡ false
-not-never Never n = absurd (n refl)
-not-never Free n = refl
-not-never Climb n = refl
+false-if-not-never : (w : Turn) → (w ≡ Never → ⊥) → never w ≡ false
+false-if-not-never Never n = absurd (n refl)
+false-if-not-never Free n = refl
+false-if-not-never Climb n = refl
 
 keeps-lane : (w : Turn) (a b : ℕ) → lanesFit w a b ≡ true → a ≤ b
 keeps-lane Never a b e = leb-true a b e
 keeps-lane Free a b e = leb-true a b e
 keeps-lane Climb a b e = omega (arith, ltb-true a b e)
 
-rises : (w : Turn) (a b : ℕ) → lanesFit w a b ≡ true → w ≡ Climb → a < b
-rises w a b e c = ltb-true a b (subst (λ v. lanesFit v a b ≡ true) c e)
+lane-rises : (w : Turn) (a b : ℕ) → lanesFit w a b ≡ true → w ≡ Climb → a < b
+lane-rises w a b e c = ltb-true a b (subst (λ v. lanesFit v a b ≡ true) c e)
 
 lanes-fit : (w : Turn) (a b : ℕ) → a ≤ b → (w ≡ Climb → a < b) → lanesFit w a b ≡ true
 lanes-fit Never a b l c = le-leb a b l
@@ -65,15 +65,15 @@ module _ (link : ℕ) (hops : List Hop) (k : ℕ) (l : k < length hops) where
   same-link : (j : ℕ) → j < k → hopAt (take k hops) j .link ≡ hopAt hops j .link
   same-link j b = ap (λ (h : Hop). h .link) (getD-take k hops j _ b)
 
-  long : length (take k hops) ≡ k
-  long = length-take-le k hops (omega arith)
+  length-ahead : length (take k hops) ≡ k
+  length-ahead = length-take-le k hops (omega arith)
 
   not-used-before : uses link (take k hops) ≡ false → (j : ℕ) → j < k → hopAt hops j .link ≡ link → ⊥
-  not-used-before e j b same = not-used link (take k hops) e j (omega (arith, long)) (same-link j b ∙ same)
+  not-used-before e j b same = not-used link (take k hops) e j (omega (arith, length-ahead)) (same-link j b ∙ same)
 
   used-nowhere-before : ((j : ℕ) → j < k → hopAt hops j .link ≡ link → ⊥) → uses link (take k hops) ≡ false
   used-nowhere-before none =
-      used-nowhere link (take k hops) (λ j (b : j < length (take k hops)) same. let b′ : j < k = omega (arith, long) in none j b′ (sym (same-link j b′) ∙ same))
+      used-nowhere link (take k hops) (λ j (b : j < length (take k hops)) same. let b′ : j < k = omega (arith, length-ahead) in none j b′ (sym (same-link j b′) ∙ same))
 
 -- Two tiles that have to be the same under a condition.
 same-where : (x : Bool) (a b : ℕ) → (x ≡ true → a ≡ b) → (x && not (eqb a b)) ≡ false
@@ -144,9 +144,9 @@ module _ (t : Terms) (q : Request) (hops : List Hop) where
         count = (ltb-true _ _ (count .0), leb-true _ _ (count .1));
         on-grid = λ k l. (ltb-true _ _ (on-grid k l .0), ltb-true _ _ (on-grid k l .1));
         starts = eqb-true _ _ (not-false _ (none Start 0 (ltb-true _ _ (count .0))));
-        turns = λ k l. is-never _ (pair-passed hops (λ g h. never (turnAt g h)) k (none TurnCheck (k + 1) l));
+        turns = λ k l. never-false _ (pair-passed hops (λ g h. never (turnAt g h)) k (none TurnCheck (k + 1) l));
         keeps-lane = λ k l. keeps-lane _ _ _ (fit k l);
-        climbs = λ k l. rises _ _ _ (fit k l);
+        climbs = λ k l. lane-rises _ _ _ (fit k l);
         ends = λ k e. eqb-true _ _ (not-false _ (second-fails _ _ (eq-eqb _ _ e) (none End k (omega arith))));
         once = λ j k b l. not-used-before _ hops k l (none Once k l) j b;
         bears = λ k l. ltb-false _ _ (none Capacity k l);
@@ -156,7 +156,7 @@ module _ (t : Terms) (q : Request) (hops : List Hop) where
   no-hop-fails : Acceptable t q hops → (c : Check) (k : ℕ) → k < length hops → fails t q hops c k ≡ false
   no-hop-fails a OnGrid k l = not-from-true _ (and-from _ _ (lt-ltb _ _ (a .on-grid k l .0)) (lt-ltb _ _ (a .on-grid k l .1)))
   no-hop-fails a Start k l = same-where _ _ _ (λ first. ap (λ n. t .layout .start (hopAt hops n .link)) (eqb-true k 0 first) ∙ a .starts)
-  no-hop-fails a TurnCheck k l = pair-passes hops (λ g h. never (turnAt g h)) (λ j m. not-never _ (a .turns j m)) k l
+  no-hop-fails a TurnCheck k l = pair-passes hops (λ g h. never (turnAt g h)) (λ j m. false-if-not-never _ (a .turns j m)) k l
   no-hop-fails a Lane k l = pair-passes hops laneFalls (λ j m. not-from-true _ (lanes-fit _ _ _ (a .keeps-lane j m) (a .climbs j m))) k l
   no-hop-fails a End k l = same-where _ _ _ (λ last. a .ends k (eqb-true _ _ last))
   no-hop-fails a Once k l = used-nowhere-before _ hops k l (λ j b. a .once j k b l)

@@ -7,6 +7,7 @@ use native.Mathlib.Omega.{arith}
 use lib.ListN.{length, getD, drop}
 use Rattle.std.proofs.shelf.Lists.{at-drop-more, at-drop-all}
 use Rattle.std.specs.Results.{Cases}
+use Rattle.std.specs.Options.{orOther}
 use Rattle.std.specs.declared.option.Option.{Option}
 use Rattle.std.specs.declared.option.Option.the-variants.{None, Some}
 use Rattle.std.specs.declared.result.Result.{Result}
@@ -17,8 +18,8 @@ use Rattle.routes.specs.declared.declined.Declined.{Declined}
 use Rattle.routes.specs.declared.hop.Hop.{Hop}
 use Rattle.routes.specs.declared.stream.Request.{Request}
 use Rattle.routes.specs.Routes.{countFits}
-use Rattle.routes.specs.Firsts.{orElse, firstOf, firstBelow}
-use Rattle.routes.specs.Checks.{Terms, unless, atHop, fieldChecks, fails, refusalOf, hopChecks, hopCheck, routeChecks, judgement, verdict}
+use Rattle.routes.specs.Firsts.{firstOf, firstBelow}
+use Rattle.routes.specs.Checks.{Terms, noHop, unless, atHop, fieldChecks, fails, refusalOf, hopChecks, hopCheck, routeChecks, judgement, verdict}
 use Rattle.routes.specs.Acceptable.{Acceptable, Judges}
 use Rattle.routes.proofs.Firsts.{some≢none, first-append}
 use Rattle.routes.proofs.Judging.{acceptable, accepted}
@@ -27,18 +28,18 @@ module _ (t : Terms) (q : Request) (hops : List Hop) where
   abbrev hopsJudged : Option Declined
   hopsJudged = firstOf (map (hopCheck t q hops) hopChecks)
 
-  after-fields : (o : Option Declined) → firstOf (fieldChecks (t .layout) q) ≡ o → judgement t q hops ≡ orElse o (firstOf (routeChecks t q hops))
+  after-fields : (o : Option Declined) → firstOf (fieldChecks (t .layout) q) ≡ o → judgement t q hops ≡ orOther o (firstOf (routeChecks t q hops))
   unfolding judgement
-  after-fields o e = first-append (fieldChecks (t .layout) q) (routeChecks t q hops) ∙ ap (λ p. orElse p (firstOf (routeChecks t q hops))) e
+  after-fields o e = first-append (fieldChecks (t .layout) q) (routeChecks t q hops) ∙ ap (λ p. orOther p (firstOf (routeChecks t q hops))) e
 
   pub fields-declined : (d : Declined) → firstOf (fieldChecks (t .layout) q) ≡ Some d → judgement t q hops ≡ Some d
   fields-declined d e = after-fields (Some d) e
 
   module _ (fields : firstOf (fieldChecks (t .layout) q) ≡ None) where
-    by-count : (fits : Bool) → countFits hops ≡ fits → judgement t q hops ≡ orElse (unless fits HopCount) hopsJudged
-    by-count fits e = after-fields None fields ∙ ap (λ b. orElse (unless b HopCount) hopsJudged) e
+    by-count : (fits : Bool) → countFits hops ≡ fits → judgement t q hops ≡ orOther (unless fits HopCount) hopsJudged
+    by-count fits e = after-fields None fields ∙ ap (λ b. orOther (unless b HopCount) hopsJudged) e
 
-    pub count-declined : countFits hops ≡ false → judgement t q hops ≡ Some (record { refusal = HopCount; hop = None })
+    pub count-declined : countFits hops ≡ false → judgement t q hops ≡ Some (noHop HopCount)
     count-declined = by-count false
 
     pub hop-by-hop : countFits hops ≡ true → judgement t q hops ≡ hopsJudged
@@ -49,7 +50,7 @@ module _ (t : Terms) (q : Request) (hops : List Hop) where
     pub check-declined : (d : Check) (k : ℕ) → i < n → Some k ≡ firstBelow (length hops) (fails t q hops (getD checks i d))
         → Some (record { refusal = refusalOf (getD checks i d); hop = Some k }) ≡ hopsJudged
     check-declined d k l e =
-        ap (λ o. orElse (atHop (refusalOf (getD checks i d)) o) (firstOf (map (hopCheck t q hops) (drop (i + 1) checks)))) e
+        ap (λ o. orOther (atHop (refusalOf (getD checks i d)) o) (firstOf (map (hopCheck t q hops) (drop (i + 1) checks)))) e
         ∙ sym (at-drop-more (λ cs. firstOf (map (hopCheck t q hops) cs)) checks i d (omega arith)) ∙ left
 
     pub checks-passed : n ≤ i → None ≡ hopsJudged

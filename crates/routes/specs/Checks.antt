@@ -22,7 +22,7 @@ use Rattle.routes.specs.declared.hop.Hop.{Hop}
 use Rattle.routes.specs.declared.judge.Limits.{Limits}
 use Rattle.routes.specs.declared.stream.Request.{Request}
 use Rattle.routes.specs.Firsts.{firstOf, firstBelow}
-use Rattle.routes.specs.Routes.{countFits, hopAt, uses}
+use Rattle.routes.specs.Routes.{countFits, hopAt, onGrid, uses}
 
 -- What a route is judged by: the layout, how many lanes a link has, what it can bear, and the load of each link.
 pub record Terms : Type 0 where
@@ -38,10 +38,15 @@ loadIn loads link = getD loads link 0
 abbrev pub termsOf : Meaning → Limits → Terms
 termsOf m limits = record { layout = m; lanes = limits .lanes; capacity = limits .capacity; load = loadIn (now (limits .loads)) }
 
+-- a refusal that tells no hop
+abbrev pub noHop : Refusal → Declined
+noHop refusal = record { refusal = refusal; hop = None }
+
 -- a check that is not passed declines
 abbrev pub unless : Bool → Refusal → Option Declined
-unless passed refusal = cond passed None (Some (record { refusal = refusal; hop = None }))
+unless passed refusal = cond passed None (Some (noHop refusal))
 
+-- a refusal at the hop that was found, if one was
 abbrev pub atHop : Refusal → Option ℕ → Option Declined
 atHop refusal hop = mapped (λ k. record { refusal = refusal; hop = Some k }) hop
 
@@ -51,6 +56,7 @@ fieldChecks m q =
     unless (ltb (q .source) (m .tiles) && (ltb (q .target) (m .tiles) && not (eqb (q .source) (q .target)))) BadEndpoints
     ∷ (unless (ltb 0 (q .demand)) ZeroAmount ∷ [])
 
+-- the turn is *never*
 abbrev pub never : Turn → Bool
 never Never = true
 never Free = false
@@ -62,16 +68,21 @@ lanesFit Never from to = leb from to
 lanesFit Free from to = leb from to
 lanesFit Climb from to = ltb from to
 
+-- the turn from the hop before hop k to hop k
+abbrev pub turnInto : Terms → List Hop → ℕ → Turn
+turnInto t hops k = t .layout .turn (hopAt hops (k - 1) .link) (hopAt hops k .link)
+
 -- Whether hop k fails a check. Of two hops in turn the second fails, of links that stand twice the later one.
 abbrev pub fails : Terms → Request → List Hop → Check → ℕ → Bool
-fails t q hops OnGrid k = not (ltb (hopAt hops k .link) (t .layout .links) && ltb (hopAt hops k .lane) (t .lanes))
+fails t q hops OnGrid k = not (onGrid (t .layout .links) (t .lanes) (hopAt hops k))
 fails t q hops Start k = eqb k 0 && not (eqb (t .layout .start (hopAt hops k .link)) (q .source))
-fails t q hops TurnCheck k = ltb 0 k && never (t .layout .turn (hopAt hops (k - 1) .link) (hopAt hops k .link))
-fails t q hops Lane k = ltb 0 k && not (lanesFit (t .layout .turn (hopAt hops (k - 1) .link) (hopAt hops k .link)) (hopAt hops (k - 1) .lane) (hopAt hops k .lane))
+fails t q hops TurnCheck k = ltb 0 k && never (turnInto t hops k)
+fails t q hops Lane k = ltb 0 k && not (lanesFit (turnInto t hops k) (hopAt hops (k - 1) .lane) (hopAt hops k .lane))
 fails t q hops End k = eqb (k + 1) (length hops) && not (eqb (t .layout .end (hopAt hops k .link)) (q .target))
 fails t q hops Once k = uses (hopAt hops k .link) (take k hops)
 fails t q hops Capacity k = ltb (t .capacity) (t .load (hopAt hops k .link) + q .demand)
 
+-- the refusal of each check
 abbrev pub refusalOf : Check → Refusal
 refusalOf OnGrid = OffGrid
 refusalOf Start = WrongStart

@@ -20,9 +20,17 @@ hopsOf r = take (r .count) (r .table)
 abbrev pub countFits : List Hop → Bool
 countFits hops = ltb 0 (length hops) && leb (length hops) 24
 
+-- a link with a lane
+abbrev pub hopOn : ℕ → ℕ → Hop
+hopOn link lane = record { link = link; lane = lane }
+
 -- hop k of a route, counted from 0
 abbrev pub hopAt : List Hop → ℕ → Hop
-hopAt hops k = getD hops k (record { link = 0; lane = 0 })
+hopAt hops k = getD hops k (hopOn 0 0)
+
+-- the link and the lane of a hop are there, of so many links and lanes
+abbrev pub onGrid : ℕ → ℕ → Hop → Bool
+onGrid links lanes h = ltb (h .link) links && ltb (h .lane) lanes
 
 -- a link stands in a list of hops
 abbrev pub uses : ℕ → List Hop → Bool

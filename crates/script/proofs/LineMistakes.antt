@@ -6,25 +6,25 @@ use Rattle.script.specs.Reads.{OfTheLine}
 use Rattle.script.specs.Hops.{hopsIn}
 use Rattle.script.specs.Commands.{behind, meshInstruction, linkInstruction, turnInstruction, judgeInstruction, namedInstruction, commandOf}
 
-hops : (ws : List (List ℕ)) → OfTheLine (hopsIn ws)
-hops [] = tt
-hops (w ∷ ws) = grind (arith, hops ws)
+hops-mistakes : (ws : List (List ℕ)) → OfTheLine (hopsIn ws)
+hops-mistakes [] = tt
+hops-mistakes (w ∷ ws) = grind (arith, hops-mistakes ws)
 
-meshes : (ws : List (List ℕ)) → OfTheLine (meshInstruction ws)
-meshes ws = grind arith
+mesh-mistakes : (ws : List (List ℕ)) → OfTheLine (meshInstruction ws)
+mesh-mistakes ws = grind arith
 
-links : (ws : List (List ℕ)) → OfTheLine (linkInstruction ws)
-links ws = grind arith
+link-mistakes : (ws : List (List ℕ)) → OfTheLine (linkInstruction ws)
+link-mistakes ws = grind arith
 
-turns : (ws : List (List ℕ)) → OfTheLine (turnInstruction ws)
-turns ws = grind arith
+turn-mistakes : (ws : List (List ℕ)) → OfTheLine (turnInstruction ws)
+turn-mistakes ws = grind arith
 
-judges : (ws : List (List ℕ)) → OfTheLine (judgeInstruction ws)
-judges ws = grind (arith, hops (behind (behind (behind ws))))
+judge-mistakes : (ws : List (List ℕ)) → OfTheLine (judgeInstruction ws)
+judge-mistakes ws = grind (arith, hops-mistakes (behind (behind (behind ws))))
 
-named : (name : List ℕ) (ws : List (List ℕ)) → OfTheLine (namedInstruction name ws)
-named name ws = grind (arith, meshes ws, links ws, turns ws, judges ws)
+named-mistakes : (name : List ℕ) (ws : List (List ℕ)) → OfTheLine (namedInstruction name ws)
+named-mistakes name ws = grind (arith, mesh-mistakes ws, link-mistakes ws, turn-mistakes ws, judge-mistakes ws)
 
-pub commands : (ws : List (List ℕ)) → OfTheLine (commandOf ws)
-commands [] = tt
-commands (name ∷ ws) = grind (arith, named name ws)
+pub line-mistakes : (ws : List (List ℕ)) → OfTheLine (commandOf ws)
+line-mistakes [] = tt
+line-mistakes (name ∷ ws) = grind (arith, named-mistakes name ws)

@@ -7,6 +7,7 @@ use lib.ListN.{take, drop}
 use Rattle.std.specs.shelf.Lists.{leading}
 use Rattle.std.specs.declared.result.Result.the-variants.{Ok, Err}
 use Rattle.routes.specs.declared.hop.Hop.{Hop}
+use Rattle.routes.specs.Routes.{hopOn}
 use Rattle.script.specs.declared.mistake.Mistake.the-variants.{NotAHop}
 use Rattle.script.specs.Numbers.{decimalOf}
 use Rattle.script.specs.Reads.{Read, then}
@@ -17,7 +18,7 @@ aheadOfDot w = leading (λ b. not (eqb b 46)) w
 
 -- the hop of a link and a lane, each in digits
 abbrev pub fromDigits : List ℕ → List ℕ → Read Hop
-fromDigits link lane = then (decimalOf 65535 link) (λ k. then (decimalOf 255 lane) (λ l. Ok (record { link = k; lane = l })))
+fromDigits link lane = then (decimalOf 65535 link) (λ k. then (decimalOf 255 lane) (λ l. Ok (hopOn k l)))
 
 -- the hop of a link, and of what stands behind it: a dot and a lane
 abbrev pub dotted : List ℕ → List ℕ → Read Hop

@@ -12,7 +12,7 @@ use Rattle.layouts.specs.Layout.{Meaning}
 use Rattle.layouts.specs.Links.{InRange}
 use Rattle.layouts.specs.Mesh.{meaningOf, meshMeaning}
 use Rattle.layouts.specs.declared.turn_rule.TurnRule.{TurnRule}
-use Rattle.routes.specs.Checks.{Terms, judgement}
+use Rattle.routes.specs.Checks.{Terms, noHop, judgement}
 use Rattle.routes.specs.declared.declined.Declined.{Declined}
 use Rattle.script.specs.declared.mistake.Mistake.the-variants.{NoMesh, OutOfMemory}
 use Rattle.script.specs.Words.{wordsOf}
@@ -35,9 +35,10 @@ meshOf s = mapped meaningOf (s .mesh)
 abbrev pub Makes : Hand → TurnRule → ℕ → ℕ → Answer → Hand → Type 0
 Makes before rule w h r after =
     (InRange w h × (r ≡ Made (meshMeaning rule w h .tiles) (meshMeaning rule w h .links)) × (after ≡ Some (meshMeaning rule w h)))
-    ⊎ ((InRange w h → ⊥) × (r ≡ Refused (record { refusal = MeshSize; hop = None })) × (after ≡ before))
+    ⊎ ((InRange w h → ⊥) × (r ≡ Refused (noHop MeshSize)) × (after ≡ before))
 
--- What a route is judged by on the mesh at hand: 4 lanes and a capacity of 65535, the most that a grid has, and no link bears a load.
+-- What a route is judged by on the mesh at hand: 4 lanes and a capacity of 65535, the most that a grid has, and no link
+-- bears a load.
 abbrev pub unloaded : Meaning → Terms
 unloaded m = record { layout = m; lanes = 4; capacity = 65535; load = λ _. 0 }
 

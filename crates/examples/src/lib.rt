@@ -1,4 +1,6 @@
 // Worked examples of the definitions.
+#![tactic(auto)]
+
 ghost use Rattle.examples.specs.Examples.{WorkedExamples};
 
 /// Turns of a small mesh, routes on it, openings under load, and a short run, computed from the definitions.

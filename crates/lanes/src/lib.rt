@@ -1,4 +1,6 @@
 // The queues of the lanes, over item slots that are lent at each call.
+#![tactic(auto)]
+
 mod ring;
 mod rings;
 pub mod size;

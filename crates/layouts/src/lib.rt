@@ -1,4 +1,6 @@
 // Layouts: which tiles and links there are, and how two links may follow each other.
+#![tactic(auto)]
+
 pub mod direction;
 pub mod layout;
 mod link;

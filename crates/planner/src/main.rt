@@ -1,4 +1,6 @@
 // The planner: reads a script from standard input and prints the reply to each of its lines.
+#![tactic(auto)]
+
 use session::session::Session;
 use std::io;
 use std::io::{BufRead, BufReader};

@@ -1,2 +1,4 @@
 // Why a call is declined.
+#![tactic(auto)]
+
 pub mod refusal;

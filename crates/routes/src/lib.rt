@@ -1,4 +1,6 @@
 // Routes of streams: hops, loads, and the judgement of a route.
+#![tactic(auto)]
+
 mod check;
 pub mod declined;
 pub mod hop;

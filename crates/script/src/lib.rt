@@ -1,4 +1,6 @@
 // The planner's script: from the bytes of a line to a command, or to what is wrong with it.
+#![tactic(auto)]
+
 mod bytes;
 pub mod command;
 mod hop;

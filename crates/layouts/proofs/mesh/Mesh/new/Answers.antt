@@ -9,8 +9,8 @@ returns c =
     let rule = c.args.rule in
     let w = c.args.width in
     let h = c.args.height in
-    let size = c.in-ok-size.size in
-    let same = c.in-ok-size.ensures in
+    let size = c.in_ok-size.size in
+    let same = c.in_ok-size.ensures in
     let range : InRange w h = omega arith in
     let meaning : mesh_meaning rule size.width size.height ≡ mesh_meaning rule w h =
     ap (λ n. mesh_meaning rule n size.height) same.0 ∙ ap (mesh_meaning rule w) same.1 in

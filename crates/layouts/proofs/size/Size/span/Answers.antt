@@ -7,7 +7,7 @@ use Rattle.layouts.specs.Links.{InRange, Inside, Leaves, link_at}
 use Rattle.layouts.specs.Bounds.{tiles_le}
 use Rattle.layouts.specs.LinkNumbers.{Found, found, start_lt}
 use Rattle.layouts.proofs.size.Size.span.Goals as goal
-use Rattle.layouts.proofs.size.Size.span.Goals.{In-ok-link}
+use Rattle.layouts.proofs.size.Size.span.Goals.{In_ok-link}
 
 module _ (w h : ℕ) (r : InRange w h) (k : ℕ) (l : MeshLink) (is : Some l ≡ link_at w h k) where
   inside : Inside w h l
@@ -22,20 +22,20 @@ module _ (w h : ℕ) (r : InRange w h) (k : ℕ) (l : MeshLink) (is : Some l ≡
       omega (arith, mul-le 1 w l.y w leaves (omega arith))
 
 -- the start of the link at hand
-small : (c : In-ok-link) → c.in-ok-link.link.y * c.args.self.now.width + c.in-ok-link.link.x < 64
-small c = start_small _ _ c.args.self.now.ok _ _ c.in-ok-link.ensures
+small : (c : In_ok-link) → c.in_ok-link.link.y * c.args.self.now.width + c.in_ok-link.link.x < 64
+small c = start_small _ _ c.args.self.now.ok _ _ c.in_ok-link.ensures
 
-pub overflow-mul-start : goal.overflow-mul-start
-overflow-mul-start c = omega (arith, small (goal.at.overflow-mul-start c).In-ok-link)
+pub overflow_mul-start : goal.overflow_mul-start
+overflow_mul-start c = omega (arith, small (goal.at.overflow_mul-start c).In_ok-link)
 
-pub overflow-add-start : goal.overflow-add-start
-overflow-add-start c = omega (arith, small (goal.at.overflow-add-start c).In-ok-link)
+pub overflow_add-start : goal.overflow_add-start
+overflow_add-start c = omega (arith, small (goal.at.overflow_add-start c).In_ok-link)
 
-pub overflow-add-end : goal.overflow-add-end
-overflow-add-end c = omega (arith, small (goal.at.overflow-add-end c).In-ok-link)
+pub overflow_add-end : goal.overflow_add-end
+overflow_add-end c = omega (arith, small (goal.at.overflow_add-end c).In_ok-link)
 
-pub overflow-add-end-in-North : goal.overflow-add-end-in-North
-overflow-add-end-in-North c = omega (arith, small (goal.at.overflow-add-end-in-North c).In-ok-link)
+pub overflow_add-end-in-North : goal.overflow_add-end-in-North
+overflow_add-end-in-North c = omega (arith, small (goal.at.overflow_add-end-in-North c).In_ok-link)
 
-pub overflow-sub-end-in-South : goal.overflow-sub-end-in-South
-overflow-sub-end-in-South c = start_south _ _ c.args.self.now.ok _ _ c.in-ok-link.ensures c.in-South.is
+pub overflow_sub-end-in-South : goal.overflow_sub-end-in-South
+overflow_sub-end-in-South c = start_south _ _ c.args.self.now.ok _ _ c.in_ok-link.ensures c.in-South.is

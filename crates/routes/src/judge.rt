@@ -52,7 +52,7 @@ fn fails<L: Layout>(
     k: usize,
 ) -> bool
     requires { k < length hops.now }
-    ensures { result ≡ fails (terms_of (meaning layout.now) limits.entry) request hops.now check k }
+    ensures { result ≡ fails (terms_of (L.meaning layout.now) limits.entry) request hops.now check k }
 {
     let hop = hops[k];
     match check {
@@ -80,7 +80,7 @@ fn first_failing<L: Layout>(
     hops: &[Hop],
     check: Check,
 ) -> Option<usize>
-    ensures { result ≡ first_below (length hops.now) (fails (terms_of (meaning layout.now) limits.entry) request hops.now check) }
+    ensures { result ≡ first_below (length hops.now) (fails (terms_of (L.meaning layout.now) limits.entry) request hops.now check) }
 {
     for k in 0..hops.len() {
         if fails(layout, limits, request, hops, check, k) {
@@ -93,7 +93,7 @@ fn first_failing<L: Layout>(
 /// Judges the fields of a stream: `BadEndpoints` unless source and target are two tiles of the layout, then `ZeroAmount`
 /// for a demand of 0.
 pub fn judge_fields<L: Layout>(layout: &L, request: Request) -> Result<(), Declined>
-    ensures { result ≡ verdict (first_of (field_checks (meaning layout.now) request)) }
+    ensures { result ≡ verdict (first_of (field_checks (L.meaning layout.now) request)) }
 {
     let tiles = layout.tiles();
     if request.source >= tiles || request.target >= tiles || request.source == request.target {
@@ -118,7 +118,7 @@ fn judge_hops<L: Layout>(
     request: Request,
     hops: &[Hop],
 ) -> Result<(), Declined>
-    ensures { result ≡ verdict (first_of (map (hop_check (terms_of (meaning layout.now) limits.entry) request hops.now) hop_checks)) }
+    ensures { result ≡ verdict (first_of (map (hop_check (terms_of (L.meaning layout.now) limits.entry) request hops.now) hop_checks)) }
 {
     for check in Check::all() {
         if let Some(k) = first_failing(layout, limits, request, hops, check) {
@@ -138,7 +138,7 @@ pub fn judge<L: Layout>(
     request: Request,
     hops: &[Hop],
 ) -> Result<(), Declined>
-    ensures { Judges (terms_of (meaning layout.now) limits.entry) request hops.now result }
+    ensures { Judges (terms_of (L.meaning layout.now) limits.entry) request hops.now result }
 {
     judge_fields(layout, request)?;
     if !count_fits(hops) {

@@ -5,8 +5,8 @@ use Rattle.routes.proofs.load.link_load.Goals as goal
 
 pub loop-entry-preserved : goal.loop-entry-preserved
 loop-entry-preserved c = (
-  load_more c.args.link c.args.streams.now c.loop-entry.entry-index c.entry-item.result _ _ (omega arith) c.loop-entry.invariant.0 c.share-of-sum.ensures.value,
-  omega (arith, c.loop-entry.invariant.1, c.share-of-sum.ensures.bound),
+  load_more c.args.link c.args.streams.now c.loop-entry.entry-index c.entry-item.result _ _ (omega arith) c.loop-entry.invariant.0 c.share_of-sum.ensures.value,
+  omega (arith, c.loop-entry.invariant.1, c.share_of-sum.ensures.bound),
 )
 
 pub returns : goal.returns

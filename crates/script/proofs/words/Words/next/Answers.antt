@@ -1,6 +1,5 @@
 use Rattle.std.proofs.Common.{length, take, drop, sym, ap, ◌∙◌}
 use Rattle.std.proofs.lemmas.Bool.{eqb-true, eqb-false}
-use Rattle.script.specs.Bytes.{run}
 use Rattle.script.proofs.WordCuts.{Cut, next_none, next_some}
 use Rattle.script.proofs.words.Words.next.Goals as goal
 use Rattle.script.proofs.words.Words.next.Goals.{After-split_at-2}

@@ -8,8 +8,8 @@ index-requires-2 g c =
     record { enough = c.requires.enough; lane = c.requires.lane; is = c.index.ensures } in
     omega (arith, front_in at, c.args.self.now.long)
 
-pub offset-bounds-slots-slot : goal.offset-bounds-slots-slot
-offset-bounds-slots-slot g c =
+pub offset_bounds-slots-slot : goal.offset_bounds-slots-slot
+offset_bounds-slots-slot g c =
     let at : RingOf c.args.self.now c.args.slots.now c.args.k c.index.result.now =
     record { enough = c.requires.enough; lane = c.requires.lane; is = c.index.ensures } in
     omega (arith, front_in at)

@@ -1,19 +1,19 @@
-use Rattle.std.proofs.Common.{refl, arith}
+use Rattle.std.proofs.Common.{refl}
 use Rattle.lanes.proofs.Queues.{RingOf, has_some, left_fit, left_queue, left_place, left_others}
 use Rattle.lanes.proofs.tables.Lanes.leave.Goals as goal
 
-pub overflow-sub-self : goal.overflow-sub-self
-overflow-sub-self g c =
+pub overflow_sub-ring : goal.overflow_sub-ring
+overflow_sub-ring g c =
     let at : RingOf c.args.self.now c.args.slots.now c.args.k c.index-ring.result.now =
     record { enough = c.requires.enough; lane = c.requires.lane; is = c.index-ring.ensures } in
     has_some at c.requires.some
 
-pub invariant-of-self : goal.invariant-of-self
-invariant-of-self g c =
+pub invariant_of-self : goal.invariant_of-self
+invariant_of-self g c =
     let l = c.args.self.now in
     let at : RingOf l c.args.slots.now c.args.k c.index-ring.result.now =
     record { enough = c.requires.enough; lane = c.requires.lane; is = c.index-ring.ensures } in
-    (l.wide, (l.long, (left_fit at c.requires.some, tt)))
+    record { wide = l.wide; long = l.long; fit = left_fit at c.requires.some }
 
 pub returns : goal.returns
 returns g c =

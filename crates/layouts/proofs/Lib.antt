@@ -1,1 +1,2 @@
 pub mod ByLinks
+pub mod Starts

@@ -47,17 +47,11 @@ impl Layout for Mesh {
     }
 
     fn start(&self, link: u16) -> u16 {
-        match self.size.span(link) {
-            Some(span) => span.start,
-            None => 255,
-        }
+        self.size.span(link).map_or(255, |span| span.start)
     }
 
     fn end(&self, link: u16) -> u16 {
-        match self.size.span(link) {
-            Some(span) => span.end,
-            None => 255,
-        }
+        self.size.span(link).map_or(255, |span| span.end)
     }
 
     fn turn(&self, a: u16, b: u16) -> Turn {

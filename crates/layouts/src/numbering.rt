@@ -19,20 +19,15 @@ impl Size {
         Ok(Size { width, height })
     }
 
-    /// How many links lead east; as many lead west.
-    fn level(&self) -> u16
-        ensures value { result ≡ level self.now.width self.now.height }
-        ensures bound { result ≤ 56 }
+    /// How many links lead east, and how many lead north; as many lead back.
+    fn blocks(&self) -> (u16, u16)
+        ensures value { result ≡ (level self.now.width self.now.height, upright self.now.width self.now.height) }
+        ensures bounds { (result.0 ≤ 56) × (result.1 ≤ 56) }
     {
-        self.height * (self.width - 1)
-    }
-
-    /// How many links lead north; as many lead south.
-    fn upright(&self) -> u16
-        ensures value { result ≡ upright self.now.width self.now.height }
-        ensures bound { result ≤ 56 }
-    {
-        self.width * (self.height - 1)
+        (
+            self.height * (self.width - 1),
+            self.width * (self.height - 1),
+        )
     }
 
     /// The count of tiles.
@@ -46,15 +41,15 @@ impl Size {
     pub(crate) fn links(&self) -> u16
         ensures { result ≡ link_count self.now.width self.now.height }
     {
-        2 * self.level() + 2 * self.upright()
+        let (level, upright) = self.blocks();
+        2 * level + 2 * upright
     }
 
     /// The link of a number, if there is one: first the links east, then west, north and south.
     fn link(&self, number: u16) -> Option<MeshLink>
         ensures { result ≡ link_at self.now.width self.now.height number }
     {
-        let level = self.level();
-        let upright = self.upright();
+        let (level, upright) = self.blocks();
         let stretches = self.width - 1;
         if number < level {
             return Some(MeshLink {
@@ -79,7 +74,7 @@ impl Size {
                 y: up / self.width,
             });
         }
-        if number < 2 * level + 2 * upright {
+        if number < self.links() {
             let down = number - (2 * level + upright);
             return Some(MeshLink {
                 direction: Direction::South,
@@ -91,6 +86,7 @@ impl Size {
     }
 
     /// The link of a number with the tiles that it joins, if there is one.
+    #[tactic(auto, using(crate::proofs::Starts::start_small, crate::proofs::Starts::start_south))]
     pub(crate) fn span(&self, number: u16) -> Option<Span>
         ensures { result ≡ span_at self.now.width self.now.height number }
     {

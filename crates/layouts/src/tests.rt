@@ -16,9 +16,9 @@ const FROM_MIDDLE: [u16; 4] = [3, 8, 16, 19];
 // Each turn at the middle tile: a row for each direction on the way in, a column for each on the way out.
 fn check_middle(rt: &impl Abort, rule: TurnRule, expected: [[Turn; 4]; 4]) -> Result<(), Fail> {
     let mesh = Mesh::new(rule, 3, 3)?;
-    for i in 0..4usize {
-        for j in 0..4usize {
-            assert_eq!(rt; mesh.turn(INTO_MIDDLE[i], FROM_MIDDLE[j]), expected[i][j]);
+    for (into, row) in INTO_MIDDLE.iter().zip(&expected) {
+        for (from, turn) in FROM_MIDDLE.iter().zip(row) {
+            assert_eq!(rt; mesh.turn(*into, *from), *turn);
         }
     }
     Ok(())
@@ -121,8 +121,8 @@ fn numbers_of_all_four_blocks(rt: HostRuntime) -> Result<(), Fail> {
     let mesh = Mesh::new(TurnRule::Xy, 5, 3)?;
     assert_eq!(rt; mesh.tiles(), 15);
     assert_eq!(rt; mesh.links(), 44);
-    for k in 0..44u16 {
-        assert_eq!(rt; (mesh.start(k), mesh.end(k)), ENDS[k as usize]);
+    for (k, ends) in (0..44).zip(ENDS) {
+        assert_eq!(rt; (mesh.start(k), mesh.end(k)), ends);
     }
     assert_eq!(rt; (mesh.start(44), mesh.end(44)), (255, 255));
     assert_eq!(rt; (mesh.start(65535), mesh.end(65535)), (255, 255));

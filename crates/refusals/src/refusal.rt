@@ -6,57 +6,57 @@ ghost use Rattle.refusals.specs.Numbers.{refusal_number};
 #[derive(Clone, Copy, PartialEq, Eq, Debug)]
 pub enum Refusal {
     /// The width or the height of a mesh lies outside 2 to 8.
-    MeshSize,
+    MeshSize = 1,
     /// The count of lanes or the depth of a grid is out of range.
-    GridSize,
+    GridSize = 2,
     /// The item slots or the scratch that the caller lends are too few.
-    TooFewSlots,
+    TooFewSlots = 3,
     /// The number of a stream is above 63.
-    NoSuchStream,
+    NoSuchStream = 4,
     /// The stream is open already.
-    AlreadyOpen,
+    AlreadyOpen = 5,
     /// The stream is not open.
-    NotOpen,
+    NotOpen = 6,
     /// The source or the target is no tile, or both are the same.
-    BadEndpoints,
+    BadEndpoints = 7,
     /// A demand or a capacity is 0.
-    ZeroAmount,
+    ZeroAmount = 8,
     /// A route has no hop, or more than 24.
-    HopCount,
+    HopCount = 9,
     /// There is no such link, or no such lane.
-    OffGrid,
+    OffGrid = 10,
     /// The first link of a route does not start at the source.
-    WrongStart,
+    WrongStart = 11,
     /// The layout tells *never* of two hops in turn.
-    NoTurn,
+    NoTurn = 12,
     /// The lane falls, or does not rise where the layout tells *climb*.
-    LaneTooLow,
+    LaneTooLow = 13,
     /// The last link of a route does not end at the target.
-    WrongEnd,
+    WrongEnd = 14,
     /// A link stands twice in a route.
-    RepeatedLink,
+    RepeatedLink = 15,
     /// The load of a link would pass the capacity.
-    OverCapacity,
+    OverCapacity = 16,
     /// There is no route.
-    NoRoute,
+    NoRoute = 17,
     /// The stream has items on the grid.
-    ItemsOnGrid,
+    ItemsOnGrid = 18,
     /// The lane is full.
-    LaneFull,
+    LaneFull = 19,
     /// The lane has no item.
-    LaneEmpty,
+    LaneEmpty = 20,
     /// The lane that the item would go to is full.
-    Held,
+    Held = 21,
     /// The bytes end before a number does.
-    NumberCut,
+    NumberCut = 22,
     /// The bytes of a number are not the fewest, go on past the third, or make more than 65,535.
-    NumberForm,
+    NumberForm = 23,
     /// The head of a plan is not allowed, or does not fit the grid.
-    BadHead,
+    BadHead = 24,
     /// Bytes stand behind the last record of a plan.
-    TrailingBytes,
+    TrailingBytes = 25,
     /// The buffer is too short.
-    BufferTooShort,
+    BufferTooShort = 26,
 }
 
 impl Refusal {
@@ -64,33 +64,6 @@ impl Refusal {
     pub fn number(self) -> u8
         ensures { result ≡ refusal_number self }
     {
-        match self {
-            Refusal::MeshSize => 1,
-            Refusal::GridSize => 2,
-            Refusal::TooFewSlots => 3,
-            Refusal::NoSuchStream => 4,
-            Refusal::AlreadyOpen => 5,
-            Refusal::NotOpen => 6,
-            Refusal::BadEndpoints => 7,
-            Refusal::ZeroAmount => 8,
-            Refusal::HopCount => 9,
-            Refusal::OffGrid => 10,
-            Refusal::WrongStart => 11,
-            Refusal::NoTurn => 12,
-            Refusal::LaneTooLow => 13,
-            Refusal::WrongEnd => 14,
-            Refusal::RepeatedLink => 15,
-            Refusal::OverCapacity => 16,
-            Refusal::NoRoute => 17,
-            Refusal::ItemsOnGrid => 18,
-            Refusal::LaneFull => 19,
-            Refusal::LaneEmpty => 20,
-            Refusal::Held => 21,
-            Refusal::NumberCut => 22,
-            Refusal::NumberForm => 23,
-            Refusal::BadHead => 24,
-            Refusal::TrailingBytes => 25,
-            Refusal::BufferTooShort => 26,
-        }
+        self as u8
     }
 }

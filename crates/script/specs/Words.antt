@@ -1,6 +1,5 @@
 -- The words of a line.
-use Rattle.std.specs.Prelude.{◌≡◌, ℕ, List, [], ◌∷◌, ◌++◌, Option, MatchOption}
-use Rattle.std.specs.Borrow.{Bor}
+use Rattle.std.specs.Prelude.{ℕ, List, [], ◌∷◌, ◌++◌}
 use Rattle.script.specs.declared.bytes.Kind.{Kind}
 use Rattle.script.specs.declared.bytes.Kind.TheVariants.{Blank, Hash, Letter}
 use Rattle.script.specs.Bytes.{kind}
@@ -22,7 +21,3 @@ words_after w (b ∷ bs) = by_kind (kind b) (ended w (words_after [] bs)) (ended
 
 abbrev pub words_of : List ℕ → List (List ℕ)
 words_of bs = words_after [] bs
-
--- r is the first of the words ws, and vs are the others
-abbrev pub HandsOut : List (List ℕ) → Option (Bor (List ℕ)) → List (List ℕ) → Type 0
-HandsOut ws r vs = MatchOption r ((ws ≡ []) × (vs ≡ [])) (λ x. ws ≡ x.now ∷ vs)

@@ -13,28 +13,27 @@ pub(crate) enum Kind {
     Letter,
 }
 
-impl Kind {
-    /// The kind of a byte.
-    pub(crate) fn of(byte: u8) -> Kind
-        ensures { result ≡ kind byte }
-    {
+impl From<u8> for Kind {
+    ghost from_gives = { λ byte k. k ≡ kind byte };
+
+    fn from(byte: u8) -> Kind {
         match byte {
             b' ' | b'\t' | b'\r' | b'\n' => Kind::Blank,
             b'#' => Kind::Hash,
             _ => Kind::Letter,
         }
     }
+}
 
+impl Kind {
     /// How many bytes at the front are of this kind.
     pub(crate) fn run(self, bytes: &[u8]) -> usize
         ensures value { result ≡ run self bytes.now }
         ensures bound { result ≤ length bytes.now }
     {
-        for (i, byte) in bytes.iter().enumerate() {
-            if Kind::of(*byte) != self {
-                return i;
-            }
-        }
-        bytes.len()
+        bytes
+            .iter()
+            .take_while(|byte| Kind::from(**byte) == self)
+            .count()
     }
 }

@@ -3,7 +3,7 @@ ghost use Rattle.std.specs.Prelude.{◌≡◌, ◌≤◌, length};
 ghost use Rattle.script.specs.Hops.{ahead_of_dot, from_digits, hop_of};
 
 use crate::mistake::Mistake;
-use crate::number::decimal;
+use crate::number::{decimal, number};
 use routes::hop::Hop;
 
 // How many bytes stand ahead of the first dot, all where there is none.
@@ -11,19 +11,14 @@ fn ahead_of_dot(word: &[u8]) -> usize
     ensures value { result ≡ ahead_of_dot word.now }
     ensures bound { result ≤ length word.now }
 {
-    for (i, byte) in word.iter().enumerate() {
-        if *byte == b'.' {
-            return i;
-        }
-    }
-    word.len()
+    word.iter().take_while(|byte| **byte != b'.').count()
 }
 
 // The hop of a link and a lane, each in digits.
 fn from_digits(link: &[u8], lane: &[u8]) -> Result<Hop, Mistake>
     ensures { result ≡ from_digits link.now lane.now }
 {
-    let link = decimal(link, 65535)? as u16;
+    let link = number(link)?;
     let lane = decimal(lane, 255)? as u8;
     Ok(Hop { link, lane })
 }

@@ -1,23 +1,20 @@
 // Decimal numbers.
 ghost use Rattle.std.specs.Prelude.{◌≡◌};
-ghost use Rattle.std.specs.Str.{all_ascii_digits};
+ghost use Rattle.std.specs.Char.{is_ascii_digit};
+ghost use Rattle.std.specs.List.{list_all};
 ghost use Rattle.script.specs.Numbers.{decimal_of};
 
 use crate::mistake::Mistake;
 
 // Whether every byte is a decimal digit.
 fn all_digits(word: &[u8]) -> bool
-    ensures { result ≡ all_ascii_digits word.now }
+    ensures { result ≡ list_all is_ascii_digit word.now }
 {
-    for byte in word {
-        if !byte.is_ascii_digit() {
-            return false;
-        }
-    }
-    true
+    word.iter().all(|byte| byte.is_ascii_digit())
 }
 
 /// The number that a word of digits writes, if it is at most `most`.
+#[tactic(auto, using(crate::proofs::Decimals::decimals))]
 pub(crate) fn decimal(word: &[u8], most: u32) -> Result<u32, Mistake>
     ensures { result ≡ decimal_of most word.now }
 {
@@ -32,4 +29,11 @@ pub(crate) fn decimal(word: &[u8], most: u32) -> Result<u32, Mistake>
         }
     }
     Ok(value as u32)
+}
+
+/// The number of 16 bits that a word writes.
+pub(crate) fn number(word: &[u8]) -> Result<u16, Mistake>
+    ensures { result ≡ decimal_of 65535 word.now }
+{
+    Ok(decimal(word, 65535)? as u16)
 }

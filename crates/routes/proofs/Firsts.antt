@@ -1,16 +1,13 @@
 -- The first of several, and the least number below n that passes a test.
-use Rattle.std.proofs.Common.{◌≡◌, ℕ, zero, suc, ◌<◌, Bool, true, false, cond, List, [], ◌∷◌, ◌++◌, Some, None, Option, sym, refl, ap, ◌∙◌, subst, ⊎_elim, arith}
+use Rattle.std.proofs.Common.{◌≡◌, ℕ, zero, suc, ◌<◌, ◌≤◌, Bool, true, false, cond, List, [], ◌∷◌, ◌++◌, Some, None, Option, sym, refl, ap, ◌∙◌, subst, ⊎_elim, arith, MatchOption}
 use Rattle.std.specs.List.{AllByRecursion as All}
 use Rattle.std.proofs.lemmas.Bool.{cases_eq, cond-true, cond-false}
 use Rattle.std.specs.Option.{option_or}
 use Rattle.routes.specs.Firsts.{first_of, first_below}
 
-pub some≢none : {A : Type 0} (x : A) → ◌≡◌ {A = Option A} (Some x) None → ⊥
-some≢none x e = let z : ◌≡◌ {A = ℕ} 0 1 = cc in omega arith
-
 or_other_none : {A : Type 0} (o p : Option A) → option_or o p ≡ None → (o ≡ None) × (p ≡ None)
 or_other_none None p e = (refl, e)
-or_other_none (Some x) p e = absurd (some≢none x e)
+or_other_none (Some x) p e = cc
 
 module _ {A : Type 0} where
   pub first_append : (os ps : List (Option A)) → first_of (os ++ ps) ≡ option_or (first_of os) (first_of ps)
@@ -44,8 +41,15 @@ module _ (test : ℕ → Bool) where
       (λ (d : k ≡ n → ⊥). ap (λ o. option_or o (cond (test n) (Some n) None)) (first_below_some n k (omega arith) passes earlier))
       (cases_eq k n)
 
+  -- what a search from 0 up finds
+  pub first_below_found : (n : ℕ) (r : Option ℕ)
+      → MatchOption r ((k : ℕ) → 0 ≤ k → k < n → test k ≡ false) (λ i. (0 ≤ i) × (i < n) × (test i ≡ true) × ((k : ℕ) → 0 ≤ k → k < i → test k ≡ false))
+      → r ≡ first_below n test
+  first_below_found n None f = sym (first_below_none n (λ k l. f k (omega arith) l))
+  first_below_found n (Some i) f = sym (first_below_some n i f.1 f.2 (λ k l. f.3 k (omega arith) l))
+
   not_here : (t : Bool) (n : ℕ) → cond t (Some n) None ≡ None → t ≡ false
-  not_here true n e = absurd (some≢none n e)
+  not_here true n e = cc
   not_here false n e = refl
 
   pub none_below : (n : ℕ) → first_below n test ≡ None → (k : ℕ) → k < n → test k ≡ false

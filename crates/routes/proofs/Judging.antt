@@ -15,19 +15,19 @@ use Rattle.routes.specs.Routes.{hop_at, uses}
 use Rattle.routes.specs.Checks.{Terms, unless, at_hop, field_checks, never, lanes_fit, fails, refusal_of, hop_checks, hop_check, route_checks, judgement}
 use Rattle.routes.specs.Acceptable.{Acceptable}
 use Rattle.routes.proofs.HopLists.{not_used, used_nowhere}
-use Rattle.routes.proofs.Firsts.{some≢none, first_none, first_all, first_below_none, none_below}
+use Rattle.routes.proofs.Firsts.{first_none, first_all, first_below_none, none_below}
 
 -- A check that declines nothing is passed.
 passed : (test : Bool) (r : Refusal) → unless test r ≡ None → test ≡ true
 passed true r e = refl
-passed false r e = absurd (some≢none _ e)
+passed false r e = cc
 
 passes : (test : Bool) (r : Refusal) → test ≡ true → unless test r ≡ None
 passes test r e = ap (λ t. unless t r) e
 
 nowhere : (r : Refusal) (hop : Option ℕ) → at_hop r hop ≡ None → hop ≡ None
 nowhere r None e = refl
-nowhere r (Some k) e = absurd (some≢none _ e)
+nowhere r (Some k) e = cc
 
 -- What a turn and two lanes say.
 never_false : (w : Turn) → never w ≡ false → w ≡ Never → ⊥

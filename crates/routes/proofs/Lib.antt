@@ -1,5 +1,5 @@
 pub mod Firsts
 pub mod HopLists
-pub mod Loads
 pub mod Judging
+pub mod Loads
 pub mod Verdicts

@@ -38,12 +38,14 @@ impl Check {
             Check::Capacity,
         ]
     }
+}
 
-    /// The refusal that a hop meets which fails the check.
-    pub(crate) fn refusal(self) -> Refusal
-        ensures { result ≡ refusal_of self }
-    {
-        match self {
+/// The refusal that a hop meets which fails the check.
+impl From<Check> for Refusal {
+    ghost from_gives = { λ check refusal. refusal ≡ refusal_of check };
+
+    fn from(check: Check) -> Refusal {
+        match check {
             Check::OnGrid => Refusal::OffGrid,
             Check::Start => Refusal::WrongStart,
             Check::Turn => Refusal::NoTurn,

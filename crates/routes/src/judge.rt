@@ -1,7 +1,7 @@
 // The judgement of a route.
-ghost use Rattle.std.specs.Prelude.{◌≡◌, ◌<◌, map, length};
-ghost use Rattle.routes.specs.Firsts.{first_of, first_below};
-ghost use Rattle.routes.specs.Checks.{terms_of, field_checks, lanes_fit, load_in, fails, hop_checks, hop_check, verdict};
+ghost use Rattle.std.specs.Prelude.{◌≡◌, ◌<◌, length};
+ghost use Rattle.routes.specs.Firsts.{first_of};
+ghost use Rattle.routes.specs.Checks.{terms_of, field_checks, lanes_fit, load_in, fails, verdict};
 ghost use Rattle.routes.specs.Acceptable.{Judges};
 
 use crate::check::Check;
@@ -26,10 +26,7 @@ pub struct Limits<'a> {
 fn load_in(loads: &[u32], link: u16) -> u32
     ensures { result ≡ load_in loads.now link }
 {
-    match loads.get(usize::from(link)) {
-        Some(load) => *load,
-        None => 0,
-    }
+    loads.get(usize::from(link)).map_or(0, |load| *load)
 }
 
 // Whether a route may go from one lane to another at a turn.
@@ -55,6 +52,7 @@ fn fails<L: Layout>(
     ensures { result ≡ fails (terms_of (L.meaning layout.now) limits.entry) request hops.now check k }
 {
     let hop = hops[k];
+    // A match and not a closure for each check: definitions and code then share one list of checks.
     match check {
         Check::OnGrid => hop.link >= layout.links() || u16::from(hop.lane) >= limits.lanes,
         Check::Start => k == 0 && layout.start(hop.link) != request.source,
@@ -72,24 +70,6 @@ fn fails<L: Layout>(
     }
 }
 
-// The first hop that fails a check.
-fn first_failing<L: Layout>(
-    layout: &L,
-    limits: Limits<'_>,
-    request: Request,
-    hops: &[Hop],
-    check: Check,
-) -> Option<usize>
-    ensures { result ≡ first_below (length hops.now) (fails (terms_of (L.meaning layout.now) limits.entry) request hops.now check) }
-{
-    for k in 0..hops.len() {
-        if fails(layout, limits, request, hops, check, k) {
-            return Some(k);
-        }
-    }
-    None
-}
-
 /// Judges the fields of a stream: `BadEndpoints` unless source and target are two tiles of the layout, then `ZeroAmount`
 /// for a demand of 0.
 pub fn judge_fields<L: Layout>(layout: &L, request: Request) -> Result<(), Declined>
@@ -97,36 +77,10 @@ pub fn judge_fields<L: Layout>(layout: &L, request: Request) -> Result<(), Decli
 {
     let tiles = layout.tiles();
     if request.source >= tiles || request.target >= tiles || request.source == request.target {
-        return Err(Declined {
-            refusal: Refusal::BadEndpoints,
-            hop: None,
-        });
+        return Err(Refusal::BadEndpoints.into());
     }
     if request.demand == 0 {
-        return Err(Declined {
-            refusal: Refusal::ZeroAmount,
-            hop: None,
-        });
-    }
-    Ok(())
-}
-
-// The first check that a hop fails, with the first hop that fails it.
-fn judge_hops<L: Layout>(
-    layout: &L,
-    limits: Limits<'_>,
-    request: Request,
-    hops: &[Hop],
-) -> Result<(), Declined>
-    ensures { result ≡ verdict (first_of (map (hop_check (terms_of (L.meaning layout.now) limits.entry) request hops.now) hop_checks)) }
-{
-    for check in Check::all() {
-        if let Some(k) = first_failing(layout, limits, request, hops, check) {
-            return Err(Declined {
-                refusal: check.refusal(),
-                hop: Some(k),
-            });
-        }
+        return Err(Refusal::ZeroAmount.into());
     }
     Ok(())
 }
@@ -142,10 +96,15 @@ pub fn judge<L: Layout>(
 {
     judge_fields(layout, request)?;
     if !count_fits(hops) {
-        return Err(Declined {
-            refusal: Refusal::HopCount,
-            hop: None,
-        });
+        return Err(Refusal::HopCount.into());
     }
-    judge_hops(layout, limits, request, hops)
+    for check in Check::all() {
+        if let Some(k) = (0..hops.len()).find(|k| fails(layout, limits, request, hops, check, *k)) {
+            return Err(Declined {
+                refusal: check.into(),
+                hop: Some(k),
+            });
+        }
+    }
+    Ok(())
 }

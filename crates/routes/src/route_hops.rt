@@ -16,6 +16,8 @@ pub(crate) fn count_fits(hops: &[Hop]) -> bool
 
 impl Route {
     /// The route of these hops. Refuses none, and more than 24, by `HopCount`.
+    ///
+    /// `new` takes an array of hops as it stands, which `TryFrom` would ask to be cut into a slice.
     pub fn new(hops: &[Hop]) -> Result<Route, Refusal>
         ensures { MatchResult result (λ route. (count_fits hops.now ≡ true) × (hops_of route ≡ hops.now)) (λ e. (count_fits hops.now ≡ false) × (e ≡ HopCount)) }
     {

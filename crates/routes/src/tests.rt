@@ -18,10 +18,13 @@ fn judged(
     links: &[(u16, u8)],
 ) -> Result<Option<Declined>, Fail> {
     let mesh = Mesh::new(TurnRule::Xy, 3, 3)?;
-    let mut hops = Vec::new(heap);
-    for (link, lane) in links.iter().copied() {
-        hops.push(Hop { link, lane })?;
-    }
+    let hops: Vec<Hop> = links
+        .iter()
+        .map(|(link, lane)| Hop {
+            link: *link,
+            lane: *lane,
+        })
+        .collect(heap)?;
     let (source, target, demand) = fields;
     let limits = Limits {
         lanes: 3,

@@ -1,7 +1,22 @@
-use Rattle.std.proofs.Common.{Some, Err, sym, refl, ap, ◌∙◌}
+use Rattle.std.proofs.Common.{◌≡◌, true, false, map, length, get_or, Some, None, Err, sym, refl, ap, ◌∙◌, rules}
+use Rattle.std.proofs.lemmas.Iterator.{first_from_Range}
 use Rattle.std.proofs.lemmas.Result.{err_from_is_err_and}
-use Rattle.routes.proofs.Verdicts.{fields_declined, count_declined, hop_by_hop, judges, declined_by, passed_by}
+use borrow.Author.Tests.{tests}
+use Rattle.routes.specs.declared.check.Check.TheVariants.{OnGrid}
+use Rattle.routes.specs.Checks.{terms_of, fails, hop_check}
+use Rattle.routes.specs.Firsts.{first_of, first_below}
+use Rattle.routes.proofs.Firsts.{first_below_found}
+use Rattle.routes.proofs.Verdicts.{fields_declined, count_declined, hop_by_hop, next_check, none_left, judges, declined_by, passed_by}
+use Rattle.routes.proofs.judge.judge.Given as given
 use Rattle.routes.proofs.judge.judge.Goals as goal
+use Rattle.routes.proofs.judge.judge.Goals.{After-find}
+
+-- the search stops at the first hop that fails the check
+searched : (g : given.Over) (c : After-find g)
+    → c.find.result ≡ first_below (length c.args.hops.now) (fails (terms_of (g.L.Layout.meaning c.args.layout.now) c.args.limits) c.args.request c.args.hops.now (get_or c.all-check-items.result c.loop-check.check-index OnGrid))
+searched g c =
+    let test = fails (terms_of (g.L.Layout.meaning c.args.layout.now) c.args.limits) c.args.request c.args.hops.now (get_or c.all-check-items.result c.loop-check.check-index OnGrid) in
+    first_below_found test _ _ (first_from_Range _ _ _ _ (λ k. test k ≡ true) (λ k. test k ≡ false) c.find.ensures.ran (λ k f e. search (rules, tests)) (λ k f e. search (rules, tests)))
 
 pub returns-in_err-judge_fields : goal.returns-in_err-judge_fields
 returns-in_err-judge_fields g c =
@@ -10,8 +25,23 @@ returns-in_err-judge_fields g c =
 
 pub returns-then-not-count_fits : goal.returns-then-not-count_fits
 returns-then-not-count_fits g c =
-    judges _ _ _ _ _ refl (count_declined _ _ _ (passed_by _ c.in_ok-judge_fields.ensures) (sym c.if-not-count_fits.ensures))
+    judges _ _ _ _ _ (ap Err c.into.ensures) (count_declined _ _ _ (passed_by _ c.in_ok-judge_fields.ensures) (sym c.if-not-count_fits.ensures))
+
+pub loop-check-init : goal.loop-check-init
+loop-check-init g c =
+    hop_by_hop _ _ _ (passed_by _ c.in_ok-judge_fields.ensures) (sym c.if-not-count_fits.ensures)
+    ∙ ap (λ checks. first_of (map (hop_check (terms_of (g.L.Layout.meaning c.args.layout.now) c.args.limits) c.args.request c.args.hops.now) checks)) (sym c.all-check-items.ensures)
+
+pub returns-in-Some : goal.returns-in-Some
+returns-in-Some g c =
+    let failing = searched g (goal.at.returns-in-Some g c).After-find in
+    judges _ _ _ _ _ (ap (λ r. Err (record { refusal = r; hop = Some c.in-Some.k })) c.into-in-Some.ensures)
+    (next_check _ _ _ _ _ _ (ap length c.all-check-items.ensures) c.loop-check.invariant _ _ c.loop-check-test.true (sym c.in-Some.is ∙ failing))
+
+pub loop-check-preserved : goal.loop-check-preserved
+loop-check-preserved g c =
+    let failing = searched g (goal.at.loop-check-preserved g c).After-find in
+    next_check _ _ _ _ _ _ (ap length c.all-check-items.ensures) c.loop-check.invariant _ _ c.loop-check-test.true (sym c.in_default.is ∙ failing)
 
 pub returns : goal.returns
-returns g c =
-    judges _ _ _ _ _ c.judge_hops.ensures (hop_by_hop _ _ _ (passed_by _ c.in_ok-judge_fields.ensures) (sym c.if-not-count_fits.ensures))
+returns g c = judges _ _ _ _ None refl (none_left _ _ _ _ _ _ (ap length c.all-check-items.ensures) c.loop-check.invariant c.loop-check-test.false)

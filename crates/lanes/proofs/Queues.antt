@@ -1,28 +1,17 @@
 -- What one lane's change does to the queues of all lanes.
-use Rattle.std.proofs.Common.{◌≡◌, ℕ, suc, ◌+◌, ◌-◌, ◌*◌, ◌%◌, ◌<◌, ◌≤◌, ◌≢◌, List, [], ◌∷◌, ◌++◌, length, get_or, drop, set, vec_items, sym, ap, ◌∙◌, subst, ⊎_elim, mul-le-mul_right, mod-lt, suc-mul, add-one, arith, length-set, get_or-set_other, get_or-set_same}
+use Rattle.std.proofs.Common.{◌≡◌, ℕ, suc, ◌+◌, ◌-◌, ◌*◌, ◌%◌, ◌<◌, ◌≤◌, ◌≢◌, List, [], ◌∷◌, ◌++◌, length, get_or, drop, set, vec_items, sym, ap, ◌∙◌, subst, ⊎_elim, mul-le-mul_right, mod-lt, suc-mul, add-one, arith, get_or-set_other, get_or-set_same}
 use native.Mathlib.Nat.{mod-add-mod}
 use Rattle.std.proofs.lemmas.Nat.{mul-add-lt}
 use Rattle.std.proofs.lemmas.List.{get_or_default, drop_at}
-use Rattle.std.proofs.lemmas.Bool.{cases_eq, cases_lt}
+use Rattle.std.proofs.lemmas.Bool.{cases_lt}
 use Rattle.lanes.specs.declared.ring.Ring.{Ring}
 use Rattle.model.specs.Grid.{Queue}
-use Rattle.lanes.specs.Rings.{Fits, RingsFit, empty_ring, next_place, here, around}
+use Rattle.lanes.specs.Rings.{Fits, empty_ring, next_place, here, around}
 use Rattle.lanes.specs.declared.tables.Lanes.{Lanes}
 use Rattle.lanes.specs.Sizes.{lane_count, slot_count}
-use Rattle.lanes.specs.Queues.{cells, ring_at, queue_at, place_at}
+use Rattle.lanes.specs.Queues.{cells, ring_at, queue_at, place_at, Reaches}
 use Rattle.lanes.proofs.RingPlaces.{here-set_same, here-set_other, length-here, around_same, length-around, around_front, turns_apart}
 use Rattle.lanes.proofs.Cells.{cells-set, length-cells, here-cells}
-
--- the rings still fit after one is set to another that fits
-pub rings_set : (depth : ℕ) (rings : List Ring) (k : ℕ) (r : Ring) → Fits depth r → RingsFit depth rings → RingsFit depth (set rings k r)
-rings_set depth rings k r fits all j d l =
-    let l' : j < length rings = omega (arith, length-set rings k r) in
-    ⊎_elim
-    (λ (e : j ≡ k).
-    let is : get_or (set rings k r) j d ≡ r = ap (λ i. get_or (set rings k r) i d) e ∙ get_or-set_same rings k r d (omega arith) in
-    subst (Fits depth) (sym is) fits)
-    (λ (ne : j ≢ k). subst (Fits depth) (sym (get_or-set_other rings k j r d ne)) (all j d l'))
-    (cases_eq j k)
 
 -- the places of different lanes are different
 pub slots_apart : (depth j k s t : ℕ) → j ≢ k → s < depth → t < depth → j * depth + s ≢ k * depth + t
@@ -31,12 +20,6 @@ slots_apart depth j k s t ne hs ht e =
     (λ (lt : j < k). let m = mul-le-mul_right depth lt in let n = suc-mul j depth in omega arith)
     (λ (le : k ≤ j). let lt : k < j = omega arith in let m = mul-le-mul_right depth lt in let n = suc-mul k depth in omega arith)
     (cases_lt j k)
-
--- Slots enough for all lanes, one of the lanes, and its ring.
-pub record RingOf {T : Type 0} (l : Lanes) (xs : List T) (k : ℕ) (r : Ring) : Type 0 where
-  pub enough : slot_count l.size ≤ length xs
-  pub lane : k < lane_count l.size
-  pub is : r ≡ get_or (vec_items l.rings) k r
 
 pub slot_in : (l : Lanes) (k t : ℕ) → k < lane_count l.size → t < l.size.depth → k * l.size.depth + t < slot_count l.size
 slot_in l k t hk ht = let m = mul-add-lt k l.size.depth t (lane_count l.size) hk ht in omega arith
@@ -54,7 +37,8 @@ queue_length l xs k enough hk =
     length-around (cells (vec_items l.owners) xs) (k * depth) depth (ring_at l k).first (ring_at l k).count l.size.deep.0
     (omega (arith, length-items l xs enough, l.size.deep.0))
 
-module _ {T : Type 0} {l : Lanes} {xs : List T} {k : ℕ} {r : Ring} (at : RingOf l xs k r) where
+-- A lane that is reached, and its ring.
+module _ {T : Type 0} {l : Lanes} {xs : List T} {k : ℕ} {r : Ring} (reach : Reaches l xs k) (is : r ≡ get_or (vec_items l.rings) k r) where
   abbrev depth : ℕ
   depth = l.size.depth
 
@@ -72,20 +56,20 @@ module _ {T : Type 0} {l : Lanes} {xs : List T} {k : ℕ} {r : Ring} (at : RingO
   queue cs rs j = around cs (j * depth) depth (get_or rs j empty_ring).first (get_or rs j empty_ring).count
 
   there : k < length rings
-  there = omega (arith, l.rings.ok.0, l.wide, at.lane)
+  there = omega (arith, l.rings.ok.0, l.wide, reach.lane)
 
   pub ring_is : ring_at l k ≡ r
-  ring_is = get_or_default rings k empty_ring r there ∙ sym at.is
+  ring_is = get_or_default rings k empty_ring r there ∙ sym is
 
   ring_fits : Fits depth r
-  ring_fits = subst (Fits depth) (sym at.is) (l.fit k r there)
+  ring_fits = subst (Fits depth) (sym is) (l.fit k r there)
 
   -- the slot of the next item, and that of the front
   pub back_in : k * depth + next_place depth r < slot_count l.size
-  back_in = slot_in l k (next_place depth r) at.lane (mod-lt (r.first + r.count) l.size.deep.0)
+  back_in = slot_in l k (next_place depth r) reach.lane (mod-lt (r.first + r.count) l.size.deep.0)
 
   pub front_in : k * depth + r.first < slot_count l.size
-  front_in = slot_in l k r.first at.lane ring_fits.0
+  front_in = slot_in l k r.first reach.lane ring_fits.0
 
   -- an item at the back of lane k
   module _ (n : ℕ) (x : T) (room : (ring_at l k).count < depth) where
@@ -101,15 +85,12 @@ module _ {T : Type 0} {l : Lanes} {xs : List T} {k : ℕ} {r : Ring} (at : RingO
     has_room : r.count < depth
     has_room = rw ring_is at room
 
-    pub entered_fit : RingsFit depth (set rings k grown)
-    entered_fit = rings_set depth rings k grown (ring_fits.0, omega (arith, has_room)) l.fit
-
     pub entered_queue : queue items' (set rings k grown) k ≡ queue_at l xs k ++ ((n, x) ∷ [])
     entered_queue =
         let before = around_same items (set items slot (n, x)) (k * depth) depth r.first r.count
         (λ j l. let ne = turns_apart r.first j r.count depth l (omega (arith, has_room)) in
         here-set_other items slot (k * depth + (r.first + j) % depth) (n, x) (λ e. ne (omega arith))) in
-        let last = here-set_same items slot (n, x) (omega (arith, length-items l xs at.enough, back_in)) in
+        let last = here-set_same items slot (n, x) (omega (arith, length-items l xs reach.enough, back_in)) in
         rw (cells-set owners xs slot n x, get_or-set_same rings k grown empty_ring there, ring_is, add-one r.count, before, last)
 
     pub entered_place : next_place depth (get_or (set rings k grown) k empty_ring) ≡ (place_at l k + 1) % depth
@@ -135,11 +116,8 @@ module _ {T : Type 0} {l : Lanes} {xs : List T} {k : ℕ} {r : Ring} (at : RingO
     abbrev shrunk : Ring
     shrunk = record { first = (r.first + 1) % depth; count = r.count - 1 }
 
-    pub has_some : 0 < r.count
+    has_some : 0 < r.count
     has_some = rw ring_is at some
-
-    pub left_fit : RingsFit depth (set rings k shrunk)
-    left_fit = rings_set depth rings k shrunk (mod-lt (r.first + 1) l.size.deep.0, (let f = ring_fits.1 in omega arith)) l.fit
 
     front_and_rest : queue_at l xs k ≡ here items (k * depth + r.first) ++ queue items (set rings k shrunk) k
     front_and_rest =
@@ -150,16 +128,16 @@ module _ {T : Type 0} {l : Lanes} {xs : List T} {k : ℕ} {r : Ring} (at : RingO
     rest_is : drop 1 (queue_at l xs k) ≡ queue items (set rings k shrunk) k
     rest_is =
         ap (drop 1) front_and_rest
-        ∙ drop_at (here items (k * depth + r.first)) _ 1 (length-here items (k * depth + r.first) (omega (arith, length-items l xs at.enough, front_in)))
+        ∙ drop_at (here items (k * depth + r.first)) _ 1 (length-here items (k * depth + r.first) (omega (arith, length-items l xs reach.enough, front_in)))
 
     pub front_is : (n : ℕ) (x : T) → n ≡ get_or owners (k * depth + r.first) n → x ≡ get_or xs (k * depth + r.first) x
         → queue_at l xs k ≡ (n, x) ∷ drop 1 (queue_at l xs k)
     front_is n x owner item =
-        let one = here-cells owners xs (k * depth + r.first) n x (omega (arith, front_in, l.owners.ok.0, l.long)) (omega (arith, front_in, at.enough)) owner item in
+        let one = here-cells owners xs (k * depth + r.first) n x (omega (arith, front_in, l.owners.ok.0, l.long)) (omega (arith, front_in, reach.enough)) owner item in
         rw rest_is (front_and_rest ∙ ap (λ f. f ++ queue items (set rings k shrunk) k) one)
 
     pub left_queue : (front : ℕ × T) → queue_at l xs k ≡ front ∷ drop 1 (queue_at l xs k) → queue_at l xs k ≡ front ∷ queue items (set rings k shrunk) k
-    left_queue front is = is ∙ ap (λ rest. front ∷ rest) rest_is
+    left_queue front first = first ∙ ap (λ rest. front ∷ rest) rest_is
 
     pub left_place : next_place depth (get_or (set rings k shrunk) k empty_ring) ≡ place_at l k
     left_place =

@@ -1,15 +1,14 @@
 -- The laws of a ring's places.
-use Rattle.std.proofs.Common.{◌≡◌, ℕ, zero, suc, ◌+◌, ◌*◌, ◌/◌, ◌%◌, ◌<◌, ◌≤◌, ◌≢◌, List, [], ◌∷◌, ◌++◌, length, set, sym, refl, ap, ◌∙◌, ⊎_elim, append_assoc, append-nil, add-zero, mod-lt, mod-eq_of_lt, mul-le-mul_left, mul-suc, arith, length-append}
+use Rattle.std.proofs.Common.{◌≡◌, ℕ, zero, suc, ◌+◌, ◌*◌, ◌/◌, ◌%◌, ◌<◌, ◌≤◌, ◌≢◌, List, [], ◌∷◌, ◌++◌, length, take, set, sym, refl, ap, ◌∙◌, ⊎_elim, append_assoc, append-nil, add-zero, mod-lt, mod-eq_of_lt, mul-le-mul_left, mul-suc, arith, length-append}
 use native.Mathlib.Nat.{mod-add-mod, mod-add-div}
 use Rattle.std.proofs.lemmas.Bool.{cases_lt}
+use Rattle.std.proofs.lemmas.List.{drop-set}
 use Rattle.lanes.specs.Rings.{here, around}
 
 -- ---- one entry of a table
 
 pub here-set_same : {A : Type 0} (xs : List A) (p : ℕ) (v : A) → p < length xs → here (set xs p v) p ≡ v ∷ []
-here-set_same [] p v h = absurd (omega arith)
-here-set_same (x ∷ xs) zero v h = refl
-here-set_same (x ∷ xs) (suc p) v h = here-set_same xs p v (omega arith)
+here-set_same xs p v h = ap (take 1) (drop-set xs p v h)
 
 pub here-set_other : {A : Type 0} (xs : List A) (p q : ℕ) (v : A) → q ≢ p → here (set xs p v) q ≡ here xs q
 here-set_other [] p q v ne = refl

@@ -1,12 +1,12 @@
 -- What the lanes contain, by their tables and the lent slots.
-use Rattle.std.specs.Prelude.{◌≡◌, ℕ, ◌+◌, ◌*◌, ◌%◌, cond, List, [], ◌∷◌, ◌++◌, replicate, None, vec_items, ◌≢◌, slice_index_or, slice_set}
+use Rattle.std.specs.Prelude.{◌≡◌, ℕ, ◌+◌, ◌*◌, ◌%◌, ◌<◌, ◌≤◌, cond, List, [], ◌∷◌, ◌++◌, length, replicate, None, vec_items, ◌≢◌, slice_index_or, slice_set}
 use Rattle.std.specs.Simd.Lanes.{zip2}
 use Rattle.routes.specs.Routes.{hop_on}
 use Rattle.model.specs.Grid.{Queue, Grid}
 use Rattle.lanes.specs.declared.tables.Lanes.{Lanes}
 use Rattle.lanes.specs.declared.ring.Ring.{Ring}
 use Rattle.lanes.specs.declared.size.Size.{Size}
-use Rattle.lanes.specs.Sizes.{slot_count, holds, lane_of}
+use Rattle.lanes.specs.Sizes.{lane_count, slot_count, holds, lane_of}
 use Rattle.lanes.specs.Rings.{empty_ring, next_place, around}
 
 -- each slot's item, with its stream
@@ -41,6 +41,11 @@ queues_of l slots = record {
 -- The lanes without their items: which stream each item is of. It is told by the tables alone, whatever the slots hold.
 abbrev pub outline : Lanes → Grid (Unit {0})
 outline l = queues_of l (replicate (slot_count l.size) tt)
+
+-- Lane k is there, and so are slots enough for all lanes.
+pub record Reaches {T : Type 0} (l : Lanes) (xs : List T) (k : ℕ) : Type 0 where
+  pub lane : k < lane_count l.size
+  pub enough : slot_count l.size ≤ length xs
 
 -- Lane k has taken an item at its back; the item stands in the slot of the lane's next place, and all else is as before.
 pub record Enters {T : Type 0} (l : Lanes) (xs : List T) (k : ℕ) (item : ℕ × T) (l' : Lanes) (xs' : List T) : Type 0 where

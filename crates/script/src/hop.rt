@@ -23,7 +23,7 @@ fn from_digits(link: &[u8], lane: &[u8]) -> Result<Hop, Mistake>
     Ok(Hop { link, lane })
 }
 
-/// The hop that a word writes: a link and a lane, with a dot between them.
+/// The hop that a word writes: a link and a lane, with a dot between them. No `TryFrom`, since `Hop` is another crate's type.
 pub(crate) fn hop(word: &[u8]) -> Result<Hop, Mistake>
     ensures { result ≡ hop_of word.now }
 {

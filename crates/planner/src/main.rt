@@ -7,12 +7,13 @@ use std::io::{BufRead, BufReader};
 
 fn main(rt: HostRuntime) -> io::Result<()> {
     let mut session = Session::new();
-    let mut number: u64 = 0;
-    for line in BufReader::new(rt.alloc(), rt.stdin())?.split(rt.alloc(), b'\n') {
+    let lines = BufReader::new(rt.alloc(), rt.stdin())?.split(rt.alloc(), b'\n');
+    for (number, line) in (1..).zip(lines) {
         let line = line?;
-        number = number.saturating_add(1);
-        if let Some(reply) = session.reply(rt.alloc(), number, line.as_slice()) {
-            println!(rt; "{reply}")?;
+        match session.reply(rt.alloc(), number, line.as_slice()) {
+            None => {}
+            Some(Ok(answer)) => println!(rt; "{answer}")?,
+            Some(Err(failure)) => println!(rt; "{failure}")?,
         }
     }
     Ok(())

@@ -2,4 +2,5 @@
 #![tactic(auto)]
 
 pub mod answer;
+pub mod failure;
 pub mod session;

@@ -1,11 +1,14 @@
 // What a script has at hand, and the answers to its lines.
 ghost use Rattle.std.specs.Prelude.{◌≡◌, None};
+ghost use Rattle.std.specs.Option.{ok_or};
 ghost use Rattle.layouts.specs.Mesh.{meaning_of};
-ghost use Rattle.routes.specs.Checks.{judgement};
+ghost use Rattle.routes.specs.Checks.{judgement, verdict};
 ghost use Rattle.script.specs.Commands.{instruction_of};
-ghost use Rattle.session.specs.Sessions.{mesh_of, Makes, unloaded, judged, Answers, Replies};
+ghost use Rattle.script.specs.declared.mistake.Mistake.TheVariants.{NoMesh};
+ghost use Rattle.session.specs.Sessions.{mesh_of, Makes, unloaded, Answers, Replies};
 
-use crate::answer::{Answer, Reply};
+use crate::answer::Answer;
+use crate::failure::{Failure, LineFailure};
 use layouts::layout::Layout;
 use layouts::mesh::Mesh;
 use layouts::turn_rule::TurnRule;
@@ -18,9 +21,9 @@ use script::mistake::Mistake;
 use script::parse::parse;
 use std::alloc::Global;
 
-// The answer to a route on a mesh whose links bear no load.
-fn judge_unloaded(mesh: &Mesh, request: Request, hops: &[Hop]) -> Answer
-    ensures { result ≡ judged (judgement (unloaded (meaning_of mesh.now)) request hops.now) }
+// Judges a route on a mesh whose links bear no load.
+fn judge_unloaded(mesh: &Mesh, request: Request, hops: &[Hop]) -> Result<(), Declined>
+    ensures { result ≡ verdict (judgement (unloaded (meaning_of mesh.now)) request hops.now) }
 {
     // the most that a grid has
     let limits = Limits {
@@ -28,13 +31,12 @@ fn judge_unloaded(mesh: &Mesh, request: Request, hops: &[Hop]) -> Answer
         capacity: 65535,
         loads: &[],
     };
-    match judge(mesh, limits, request, hops) {
-        Ok(()) => Answer::Accepted,
-        Err(declined) => Answer::Refused(declined),
-    }
+    judge(mesh, limits, request, hops)
 }
 
 /// What a script has at hand: the mesh that it made last, if any.
+///
+/// It has no `Model`: a session is `Copy`, and the model of such a type would have to give the mesh back.
 #[derive(Clone, Copy)]
 pub struct Session {
     mesh: Option<Mesh>,
@@ -48,49 +50,59 @@ impl Session {
         Session { mesh: None }
     }
 
+    // The mesh at hand.
+    fn mesh(&self) -> Result<Mesh, Mistake>
+        ensures { result ≡ ok_or self.now.mesh NoMesh }
+    {
+        self.mesh.ok_or(Mistake::NoMesh)
+    }
+
     // Makes a mesh, which takes the place of the one at hand unless it is refused.
-    fn make(&mut self, rule: TurnRule, width: u16, height: u16) -> Answer
+    fn make(&mut self, rule: TurnRule, width: u16, height: u16) -> Result<Answer, Failure>
         ensures { Makes (mesh_of self.old) rule width height result (mesh_of self.new) }
     {
-        match Mesh::new(rule, width, height) {
-            Ok(mesh) => {
-                self.mesh = Some(mesh);
-                Answer::Made(mesh.tiles(), mesh.links())
-            }
-            Err(refusal) => Answer::Refused(Declined { refusal, hop: None }),
-        }
+        let mesh = Mesh::new(rule, width, height)?;
+        self.mesh = Some(mesh);
+        Ok(Answer::Made(mesh.tiles(), mesh.links()))
     }
 
     /// The answer to a command. A refusal or a mistake leaves the mesh at hand as it was.
-    pub fn answer(&mut self, command: Command) -> Result<Answer, Mistake>
+    pub fn answer(&mut self, command: Command) -> Result<Answer, Failure>
         ensures { Answers (mesh_of self.old) (instruction_of command) result (mesh_of self.new) }
     {
-        match (command, self.mesh) {
-            (Command::Mesh(rule, width, height), _) => Ok(self.make(rule, width, height)),
-            (_, None) => Err(Mistake::NoMesh),
-            (Command::Link(link), Some(mesh)) => Ok(Answer::Ends(mesh.start(link), mesh.end(link))),
-            (Command::Turn(from, to), Some(mesh)) => Ok(Answer::Turn(mesh.turn(from, to))),
-            (Command::Judge(request, hops), Some(mesh)) => Ok(judge_unloaded(
-                &mesh,
-                request,
-                hops.as_slice(),
-            )),
+        // A match and not a closure for each command: commands are a closed set, and each brings other values.
+        match command {
+            Command::Mesh(rule, width, height) => self.make(rule, width, height),
+            Command::Link(link) => {
+                let mesh = self.mesh()?;
+                Ok(Answer::Ends(mesh.start(link), mesh.end(link)))
+            }
+            Command::Turn(from, to) => Ok(Answer::Turn(self.mesh()?.turn(from, to))),
+            Command::Judge(request, hops) => {
+                judge_unloaded(&self.mesh()?, request, hops.as_slice())?;
+                Ok(Answer::Accepted)
+            }
         }
     }
 
     /// The reply to a line of a script, none where the line has no word. Lines are counted from 1. Where there is no memory
     /// for what the line says, that is the reply, and the mesh at hand is as it was.
-    pub fn reply(&mut self, heap: Global, number: u64, line: &[u8]) -> Option<Reply>
+    pub fn reply(
+        &mut self,
+        heap: Global,
+        number: u64,
+        line: &[u8],
+    ) -> Option<Result<Answer, LineFailure>>
         ensures { Replies (mesh_of self.old) number line.now result (mesh_of self.new) }
     {
-        let command = match parse(heap, line) {
-            Ok(None) => return None,
-            Ok(Some(command)) => command,
-            Err(mistake) => return Some(Reply::Mistake(number, mistake)),
+        let at_line = |failure| LineFailure {
+            line: number,
+            failure,
         };
-        match self.answer(command) {
-            Ok(answer) => Some(Reply::Answer(answer)),
-            Err(mistake) => Some(Reply::Mistake(number, mistake)),
+        match parse(heap, line) {
+            Ok(None) => None,
+            Ok(Some(command)) => Some(self.answer(command).map_err(at_line)),
+            Err(mistake) => Some(Err(at_line(mistake.into()))),
         }
     }
 }

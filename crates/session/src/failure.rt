@@ -1,0 +1,68 @@
+// Why a line of a script has no answer, and how that is written.
+ghost use Rattle.std.specs.Prelude.{◌≡◌, Some};
+ghost use Rattle.routes.specs.Checks.{no_hop};
+ghost use Rattle.session.specs.declared.failure.Failure.TheVariants as failure;
+ghost use Rattle.session.specs.Texts.{failure_text};
+
+use refusals::refusal::Refusal;
+use routes::declined::Declined;
+use script::mistake::Mistake;
+use std::fmt;
+
+/// Why a command has no answer.
+#[derive(Clone, Copy)]
+pub enum Failure {
+    /// The call was declined: why, and at which hop where one is told.
+    Declined(Declined),
+    /// What is wrong with the line.
+    Mistake(Mistake),
+}
+
+impl From<Declined> for Failure {
+    ghost from_gives = { λ declined result. result ≡ failure.Declined declined };
+
+    fn from(declined: Declined) -> Failure {
+        Failure::Declined(declined)
+    }
+}
+
+impl From<Refusal> for Failure {
+    ghost from_gives = { λ refusal result. result ≡ failure.Declined (no_hop refusal) };
+
+    fn from(refusal: Refusal) -> Failure {
+        Failure::Declined(refusal.into())
+    }
+}
+
+impl From<Mistake> for Failure {
+    ghost from_gives = { λ mistake result. result ≡ failure.Mistake mistake };
+
+    fn from(mistake: Mistake) -> Failure {
+        Failure::Mistake(mistake)
+    }
+}
+
+/// A failure with the number of its line, counted from 1.
+#[derive(Clone, Copy)]
+pub struct LineFailure {
+    pub line: u64,
+    pub failure: Failure,
+}
+
+impl fmt::Display for LineFailure {
+    ghost output = { λ failure. Some (failure_text failure) };
+
+    fn fmt<W: fmt::Write>(&self, f: &mut fmt::Formatter<W>) -> fmt::Result {
+        let line = self.line;
+        match self.failure {
+            Failure::Declined(Declined { refusal, hop }) => {
+                let number = refusal.number();
+                match hop {
+                    Some(hop) => write!(f, "refused {number} hop {hop}"),
+                    None => write!(f, "refused {number}"),
+                }
+            }
+            Failure::Mistake(mistake) => write!(f, "error {line}: {mistake}"),
+        }
+    }
+}

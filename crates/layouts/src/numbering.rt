@@ -51,38 +51,21 @@ impl Size {
     {
         let (level, upright) = self.blocks();
         let stretches = self.width - 1;
-        if number < level {
-            return Some(MeshLink {
-                direction: Direction::East,
-                x: number % stretches,
-                y: number / stretches,
-            });
-        }
-        if number < 2 * level {
+        let (direction, x, y) = if number < level {
+            (Direction::East, number % stretches, number / stretches)
+        } else if number < 2 * level {
             let back = number - level;
-            return Some(MeshLink {
-                direction: Direction::West,
-                x: back % stretches + 1,
-                y: back / stretches,
-            });
-        }
-        if number < 2 * level + upright {
+            (Direction::West, back % stretches + 1, back / stretches)
+        } else if number < 2 * level + upright {
             let up = number - 2 * level;
-            return Some(MeshLink {
-                direction: Direction::North,
-                x: up % self.width,
-                y: up / self.width,
-            });
-        }
-        if number < self.links() {
+            (Direction::North, up % self.width, up / self.width)
+        } else if number < self.links() {
             let down = number - (2 * level + upright);
-            return Some(MeshLink {
-                direction: Direction::South,
-                x: down % self.width,
-                y: down / self.width + 1,
-            });
-        }
-        None
+            (Direction::South, down % self.width, down / self.width + 1)
+        } else {
+            return None;
+        };
+        Some(MeshLink { direction, x, y })
     }
 
     /// The link of a number with the tiles that it joins, if there is one.

@@ -9,7 +9,7 @@ use Rattle.model.specs.Grid.{Queue}
 use Rattle.lanes.specs.Rings.{Fits, empty_ring, next_place, here, around}
 use Rattle.lanes.specs.declared.tables.Lanes.{Lanes}
 use Rattle.lanes.specs.Sizes.{lane_count, slot_count}
-use Rattle.lanes.specs.Queues.{cells, ring_at, queue_at, place_at, Reaches}
+use Rattle.lanes.specs.Queues.{cells, ring_at, queue_at, place_at, HasLane}
 use Rattle.lanes.proofs.RingPlaces.{here-set_same, here-set_other, length-here, around_same, length-around, around_front, turns_apart}
 use Rattle.lanes.proofs.Cells.{cells-set, length-cells, here-cells}
 
@@ -37,8 +37,8 @@ queue_length l xs k enough hk =
     length-around (cells (vec_items l.owners) xs) (k * depth) depth (ring_at l k).first (ring_at l k).count l.size.deep.0
     (omega (arith, length-items l xs enough, l.size.deep.0))
 
--- A lane that is reached, and its ring.
-module _ {T : Type 0} {l : Lanes} {xs : List T} {k : ℕ} {r : Ring} (reach : Reaches l xs k) (is : r ≡ get_or (vec_items l.rings) k r) where
+-- A lane that is there, with slots enough, and its ring.
+module _ {T : Type 0} {l : Lanes} {xs : List T} {k : ℕ} {r : Ring} (lane : HasLane l xs k) (is : r ≡ get_or (vec_items l.rings) k r) where
   abbrev depth : ℕ
   depth = l.size.depth
 
@@ -56,7 +56,7 @@ module _ {T : Type 0} {l : Lanes} {xs : List T} {k : ℕ} {r : Ring} (reach : Re
   queue cs rs j = around cs (j * depth) depth (get_or rs j empty_ring).first (get_or rs j empty_ring).count
 
   there : k < length rings
-  there = omega (arith, l.rings.ok.0, l.wide, reach.lane)
+  there = omega (arith, l.rings.ok.0, l.wide, lane.there)
 
   pub ring_is : ring_at l k ≡ r
   ring_is = get_or_default rings k empty_ring r there ∙ sym is
@@ -66,10 +66,10 @@ module _ {T : Type 0} {l : Lanes} {xs : List T} {k : ℕ} {r : Ring} (reach : Re
 
   -- the slot of the next item, and that of the front
   pub back_in : k * depth + next_place depth r < slot_count l.size
-  back_in = slot_in l k (next_place depth r) reach.lane (mod-lt (r.first + r.count) l.size.deep.0)
+  back_in = slot_in l k (next_place depth r) lane.there (mod-lt (r.first + r.count) l.size.deep.0)
 
   pub front_in : k * depth + r.first < slot_count l.size
-  front_in = slot_in l k r.first reach.lane ring_fits.0
+  front_in = slot_in l k r.first lane.there ring_fits.0
 
   -- an item at the back of lane k
   module _ (n : ℕ) (x : T) (room : (ring_at l k).count < depth) where
@@ -90,7 +90,7 @@ module _ {T : Type 0} {l : Lanes} {xs : List T} {k : ℕ} {r : Ring} (reach : Re
         let before = around_same items (set items slot (n, x)) (k * depth) depth r.first r.count
         (λ j l. let ne = turns_apart r.first j r.count depth l (omega (arith, has_room)) in
         here-set_other items slot (k * depth + (r.first + j) % depth) (n, x) (λ e. ne (omega arith))) in
-        let last = here-set_same items slot (n, x) (omega (arith, length-items l xs reach.enough, back_in)) in
+        let last = here-set_same items slot (n, x) (omega (arith, length-items l xs lane.enough, back_in)) in
         rw (cells-set owners xs slot n x, get_or-set_same rings k grown empty_ring there, ring_is, add-one r.count, before, last)
 
     pub entered_place : next_place depth (get_or (set rings k grown) k empty_ring) ≡ (place_at l k + 1) % depth
@@ -128,12 +128,12 @@ module _ {T : Type 0} {l : Lanes} {xs : List T} {k : ℕ} {r : Ring} (reach : Re
     rest_is : drop 1 (queue_at l xs k) ≡ queue items (set rings k shrunk) k
     rest_is =
         ap (drop 1) front_and_rest
-        ∙ drop_at (here items (k * depth + r.first)) _ 1 (length-here items (k * depth + r.first) (omega (arith, length-items l xs reach.enough, front_in)))
+        ∙ drop_at (here items (k * depth + r.first)) _ 1 (length-here items (k * depth + r.first) (omega (arith, length-items l xs lane.enough, front_in)))
 
     pub front_is : (n : ℕ) (x : T) → n ≡ get_or owners (k * depth + r.first) n → x ≡ get_or xs (k * depth + r.first) x
         → queue_at l xs k ≡ (n, x) ∷ drop 1 (queue_at l xs k)
     front_is n x owner item =
-        let one = here-cells owners xs (k * depth + r.first) n x (omega (arith, front_in, l.owners.ok.0, l.long)) (omega (arith, front_in, reach.enough)) owner item in
+        let one = here-cells owners xs (k * depth + r.first) n x (omega (arith, front_in, l.owners.ok.0, l.long)) (omega (arith, front_in, lane.enough)) owner item in
         rw rest_is (front_and_rest ∙ ap (λ f. f ++ queue items (set rings k shrunk) k) one)
 
     pub left_queue : (front : ℕ × T) → queue_at l xs k ≡ front ∷ drop 1 (queue_at l xs k) → queue_at l xs k ≡ front ∷ queue items (set rings k shrunk) k

@@ -43,8 +43,8 @@ abbrev pub outline : Lanes → Grid (Unit {0})
 outline l = queues_of l (replicate (slot_count l.size) tt)
 
 -- Lane k is there, and so are slots enough for all lanes.
-pub record Reaches {T : Type 0} (l : Lanes) (xs : List T) (k : ℕ) : Type 0 where
-  pub lane : k < lane_count l.size
+pub record HasLane {T : Type 0} (l : Lanes) (xs : List T) (k : ℕ) : Type 0 where
+  pub there : k < lane_count l.size
   pub enough : slot_count l.size ≤ length xs
 
 -- Lane k has taken an item at its back; the item stands in the slot of the lane's next place, and all else is as before.

@@ -1,7 +1,8 @@
-// The ring of one lane: an item at its back, and its front. That a lane is reached is asked at each call and held by no
-// type, since the slots are lent at each call.
+// The ring of one lane: an item at its back, and its front. That lane k is there, with slots enough for all lanes, is asked
+// at each call and held by no type, since the slots are lent at each call. Casts widen; they compute in a proof, and a
+// call of `from` does not.
 ghost use Rattle.std.specs.Prelude.{◌≡◌, ◌<◌, ◌∷◌, drop};
-ghost use Rattle.lanes.specs.Queues.{ring_at, queue_at, Reaches, Enters, Leaves};
+ghost use Rattle.lanes.specs.Queues.{ring_at, queue_at, HasLane, Enters, Leaves};
 
 use crate::ring::Ring;
 use crate::tables::Lanes;
@@ -10,7 +11,7 @@ impl Lanes {
     // Puts an item of a stream at the back of lane k, which is not full.
     #[tactic(auto, using(crate::proofs::Queues::back_in))]
     pub(crate) fn enter<T: Copy>(&mut self, slots: &mut [T], k: usize, stream: u16, item: T)
-        requires reach { Reaches self.old slots.old k }
+        requires lane { HasLane self.old slots.old k }
         requires room { (ring_at self.old k).count < self.old.size.depth }
         ensures { Enters self.old slots.old k (stream, item) self.new slots.new }
     {
@@ -28,7 +29,7 @@ impl Lanes {
     // The front of lane k, which is not empty: its stream and the item.
     #[tactic(auto, using(crate::proofs::Queues::front_in))]
     pub(crate) fn first<T: Copy>(&self, slots: &[T], k: usize) -> (u16, T)
-        requires reach { Reaches self.now slots.now k }
+        requires lane { HasLane self.now slots.now k }
         requires some { 0 < (ring_at self.now k).count }
         ensures { queue_at self.now slots.now k ≡ result ∷ drop 1 (queue_at self.now slots.now k) }
     {
@@ -38,7 +39,7 @@ impl Lanes {
 
     // Takes the front off lane k, which is not empty.
     pub(crate) fn leave<T: Copy>(&mut self, slots: &[T], k: usize) -> (u16, T)
-        requires reach { Reaches self.old slots.now k }
+        requires lane { HasLane self.old slots.now k }
         requires some { 0 < (ring_at self.old k).count }
         ensures { Leaves self.old slots.now k result self.new }
     {

@@ -1,4 +1,5 @@
-// Sizes in range, and how the lanes and the slots of a grid are counted.
+// Sizes in range, and how the lanes and the slots of a grid are counted. Casts widen; they compute in a proof, and a call
+// of `from` does not.
 ghost use Rattle.std.specs.Prelude.{◌≡◌, ◌<◌, true, false, MatchResult};
 ghost use Rattle.refusals.specs.declared.refusal.Refusal.TheVariants.{GridSize};
 ghost use Rattle.lanes.specs.Sizes.{size_fits, holds, lane_of, lane_count, slot_count};

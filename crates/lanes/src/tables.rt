@@ -13,7 +13,7 @@ pub struct Lanes {
     pub(crate) size: Size,
     // lane by lane, the lanes of a link in a row
     pub(crate) rings: Vec<Ring>,
-    // slot by slot, beside the items, which stand in slots of the caller's
+    // the stream of each slot's item; the items stand in slots that the caller lends at each call
     pub(crate) owners: Vec<u16>,
     ghost wide: { vec_len rings ≡ lane_count size },
     ghost long: { vec_len owners ≡ slot_count size },

@@ -19,7 +19,7 @@ pub trait Layout {
     fn links(&self) -> u16
         ensures { result ≡ (meaning self.now).links };
 
-    // `start` and `end` answer 255 and not `None`: that number is what is asked of every layout.
+    // `start` and `end` tell 255 and not `None`: the law `outside` and the planner's answers have that number.
 
     /// The tile that a link leaves, or 255 where there is no such link.
     fn start(&self, link: u16) -> u16

@@ -20,7 +20,7 @@ impl Size {
     }
 
     /// How many links lead east, and how many lead north; as many lead back.
-    fn blocks(&self) -> (u16, u16)
+    fn block_lengths(&self) -> (u16, u16)
         ensures value { result ≡ (level self.now.width self.now.height, upright self.now.width self.now.height) }
         ensures bounds { (result.0 ≤ 56) × (result.1 ≤ 56) }
     {
@@ -41,7 +41,7 @@ impl Size {
     pub(crate) fn links(&self) -> u16
         ensures { result ≡ link_count self.now.width self.now.height }
     {
-        let (level, upright) = self.blocks();
+        let (level, upright) = self.block_lengths();
         2 * level + 2 * upright
     }
 
@@ -49,7 +49,7 @@ impl Size {
     fn link(&self, number: u16) -> Option<MeshLink>
         ensures { result ≡ link_at self.now.width self.now.height number }
     {
-        let (level, upright) = self.blocks();
+        let (level, upright) = self.block_lengths();
         let stretches = self.width - 1;
         let (direction, x, y) = if number < level {
             (Direction::East, number % stretches, number / stretches)

@@ -24,7 +24,7 @@ impl TurnRule {
     pub fn bars(self, from: Direction, to: Direction, column: u16) -> bool
         ensures { result ≡ barred self from to column }
     {
-        // A match and not a closure for each rule: rules are a closed set, and which one it is comes with the input.
+        // A match and not a closure for each rule: the rule is read from input, and all are told in one definition.
         match (self, from, to) {
             (
                 TurnRule::Xy,

@@ -7,9 +7,11 @@ use std::io::{BufRead, BufReader};
 
 fn main(rt: HostRuntime) -> io::Result<()> {
     let mut session = Session::new();
-    let lines = BufReader::new(rt.alloc(), rt.stdin())?.split(rt.alloc(), b'\n');
-    for (number, line) in (1..).zip(lines) {
+    // counted by hand, since a range or `enumerate` would end at the largest number, where this count stays
+    let mut number: u64 = 0;
+    for line in BufReader::new(rt.alloc(), rt.stdin())?.split(rt.alloc(), b'\n') {
         let line = line?;
+        number = number.saturating_add(1);
         match session.reply(rt.alloc(), number, line.as_slice()) {
             None => {}
             Some(Ok(answer)) => println!(rt; "{answer}")?,

@@ -1,4 +1,4 @@
--- Lists of hops: where a link stands, a loop that looks for it, and a table whose front is written.
+-- Lists of hops: where a link stands.
 use Rattle.std.proofs.Common.{◌≡◌, ℕ, zero, suc, ◌<◌, false, List, [], ◌∷◌, length, refl, arith}
 use Rattle.std.proofs.lemmas.Bool.{or_parts, or_from, eqb-false, ne_eqb}
 use Rattle.routes.specs.declared.hop.Hop.{Hop}

@@ -40,7 +40,7 @@ impl Check {
     }
 }
 
-/// The refusal that a hop meets which fails the check.
+/// The refusal of a hop that fails the check.
 impl From<Check> for Refusal {
     ghost from_gives = { λ check refusal. refusal ≡ refusal_of check };
 

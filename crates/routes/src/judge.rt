@@ -26,7 +26,7 @@ pub struct Limits<'a> {
 fn load_in(loads: &[u32], link: u16) -> u32
     ensures { result ≡ load_in loads.now link }
 {
-    loads.get(usize::from(link)).map_or(0, |load| *load)
+    loads.get(usize::from(link)).copied().unwrap_or(0)
 }
 
 // Whether a route may go from one lane to another at a turn.
@@ -52,11 +52,11 @@ fn fails<L: Layout>(
     ensures { result ≡ fails (terms_of (L.meaning layout.now) limits.entry) request hops.now check k }
 {
     let hop = hops[k];
-    // A match and not a closure for each check: definitions and code then share one list of checks.
+    // A match and not a closure for each check: which checks there are and in which order is then a value, `Check::all`.
     match check {
         Check::OnGrid => hop.link >= layout.links() || u16::from(hop.lane) >= limits.lanes,
         Check::Start => k == 0 && layout.start(hop.link) != request.source,
-        Check::Turn => k > 0 && matches!(layout.turn(hops[k - 1].link, hop.link), Turn::Never),
+        Check::Turn => k > 0 && layout.turn(hops[k - 1].link, hop.link) == Turn::Never,
         Check::Lane => k > 0
             && !lanes_fit(
                 layout.turn(hops[k - 1].link, hop.link),
@@ -64,7 +64,7 @@ fn fails<L: Layout>(
                 hop.lane,
             ),
         Check::End => k + 1 == hops.len() && layout.end(hop.link) != request.target,
-        Check::Once => uses_link(&hops[0..k], hop.link),
+        Check::Once => uses_link(&hops[..k], hop.link),
         Check::Capacity => u64::from(load_in(limits.loads, hop.link)) + u64::from(request.demand)
             > u64::from(limits.capacity),
     }

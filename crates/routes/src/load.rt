@@ -12,17 +12,12 @@ fn share_of(entry: &Option<Stream>, link: u16) -> u32
     ensures bound { result ≤ 65535 }
 {
     match entry {
-        Some(stream) => {
-            if uses_link(stream.route.hops(), link) {
-                u32::from(stream.request.demand)
-            } else {
-                0
-            }
-        }
-        None => 0,
+        Some(stream) if uses_link(stream.route.hops(), link) => u32::from(stream.request.demand),
+        _ => 0,
     }
 }
 
+// A loop over the table's entries, and in `uses_link` over the hops of each: a rule of the project.
 /// The load of a link: the sum of the demands of all open streams whose routes use it.
 pub fn link_load(streams: &[Option<Stream>; 64], link: u16) -> u32
     ensures { result ≡ load (streams_of streams.now) link }

@@ -3,10 +3,9 @@ ghost use Rattle.std.specs.Prelude.{◌≡◌, ◌≤◌, length};
 
 use crate::hop::Hop;
 
+// A table with a count: to open a stream allocates nothing, as a `Vec` would, and a route is `Copy`, which the library's
+// `ArrayVec` is not.
 /// A list of 1 to 24 hops: those of the table up to `count`.
-///
-/// It is a table with a count because to open a stream allocates nothing, as a `Vec` would, and a route is `Copy`, as the
-/// library's `ArrayVec` is not.
 #[derive(Clone, Copy)]
 pub struct Route {
     pub(crate) table: [Hop; 24],

@@ -15,9 +15,8 @@ pub(crate) fn count_fits(hops: &[Hop]) -> bool
 }
 
 impl Route {
+    // Not `TryFrom<&[Hop]>`: a caller with an array would have to write `&hops[..]`.
     /// The route of these hops. Refuses none, and more than 24, by `HopCount`.
-    ///
-    /// `new` takes an array of hops as it stands, which `TryFrom` would ask to be cut into a slice.
     pub fn new(hops: &[Hop]) -> Result<Route, Refusal>
         ensures { MatchResult result (λ route. (count_fits hops.now ≡ true) × (hops_of route ≡ hops.now)) (λ e. (count_fits hops.now ≡ false) × (e ≡ HopCount)) }
     {
@@ -26,9 +25,10 @@ impl Route {
         }
         let count = hops.len();
         let mut table = [Hop { link: 0, lane: 0 }; 24];
-        table[0..count].copy_from_slice(hops);
+        table[..count].copy_from_slice(hops);
         Ok(Route {
             table,
+            // proved to lose nothing
             count: count as u8,
         })
     }
@@ -37,6 +37,6 @@ impl Route {
     pub fn hops(&self) -> &[Hop]
         ensures { result.now ≡ hops_of self.now }
     {
-        &self.table[0..self.count as usize]
+        &self.table[..usize::from(self.count)]
     }
 }

@@ -20,7 +20,7 @@ pub struct Stream {
     pub route: Route,
 }
 
-// Whether a link stands in a list of hops.
+// Whether a link stands in a list of hops. A loop, by a rule of the project for what a load sums.
 pub(crate) fn uses_link(hops: &[Hop], link: u16) -> bool
     ensures { result ≡ uses link hops.now }
 {

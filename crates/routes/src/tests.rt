@@ -44,6 +44,7 @@ fn judged(
     .err())
 }
 
+// The two ways to be declined, written out as answers are compared with them.
 fn whole(refusal: Refusal) -> Option<Declined> {
     Some(Declined { refusal, hop: None })
 }

@@ -1,5 +1,5 @@
 -- When two kinds are the same.
-use Rattle.std.proofs.Common.{◌≡◌, true, false, refl, ap, ◌∙◌}
+use Rattle.std.proofs.Common.{◌≡◌, true, refl, ap, ◌∙◌}
 use Rattle.script.specs.declared.bytes.Kind.{Kind}
 use Rattle.script.specs.declared.bytes.Kind.TheVariants.{Blank, Hash, Letter}
 use Rattle.script.specs.Bytes.{same_kind}
@@ -11,14 +11,3 @@ same Letter = refl
 
 pub same_kind_lem : (k j : Kind) → j ≡ k → same_kind k j ≡ true
 same_kind_lem k j e = ap (same_kind k) e ∙ same k
-
-pub other_kind : (k j : Kind) → (j ≡ k → ⊥) → same_kind k j ≡ false
-other_kind Blank Blank h = absurd (h refl)
-other_kind Blank Hash h = refl
-other_kind Blank Letter h = refl
-other_kind Hash Blank h = refl
-other_kind Hash Hash h = absurd (h refl)
-other_kind Hash Letter h = refl
-other_kind Letter Blank h = refl
-other_kind Letter Hash h = refl
-other_kind Letter Letter h = absurd (h refl)

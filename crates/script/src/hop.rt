@@ -1,17 +1,17 @@
 // Hops, as words write them.
-ghost use Rattle.std.specs.Prelude.{◌≡◌, ◌≤◌, length};
-ghost use Rattle.script.specs.Hops.{ahead_of_dot, from_digits, hop_of};
+ghost use Rattle.std.specs.Prelude.{◌≡◌, ◌==◌};
+ghost use Rattle.std.specs.List.{position};
+ghost use Rattle.script.specs.Hops.{from_digits, hop_of};
 
 use crate::mistake::Mistake;
 use crate::number::{decimal, number};
 use routes::hop::Hop;
 
-// How many bytes stand ahead of the first dot, all where there is none.
-fn ahead_of_dot(word: &[u8]) -> usize
-    ensures value { result ≡ ahead_of_dot word.now }
-    ensures bound { result ≤ length word.now }
+// Where the first dot stands.
+fn dot(word: &[u8]) -> Option<usize>
+    ensures { result ≡ position (λ b. b == 46) word.now }
 {
-    word.iter().take_while(|byte| **byte != b'.').count()
+    word.iter().position(|byte| *byte == b'.')
 }
 
 // The hop of a link and a lane, each in digits.
@@ -19,17 +19,17 @@ fn from_digits(link: &[u8], lane: &[u8]) -> Result<Hop, Mistake>
     ensures { result ≡ from_digits link.now lane.now }
 {
     let link = number(link)?;
+    // the cast is proved to lose nothing
     let lane = decimal(lane, 255)? as u8;
     Ok(Hop { link, lane })
 }
 
-/// The hop that a word writes: a link and a lane, with a dot between them. No `TryFrom`, since `Hop` is another crate's type.
+// Not `TryFrom`, since `Hop` is another crate's type.
+/// The hop that a word writes: a link and a lane, with a dot between them.
+#[tactic(auto, using(crate::proofs::Dots::cut_at_dot))]
 pub(crate) fn hop(word: &[u8]) -> Result<Hop, Mistake>
     ensures { result ≡ hop_of word.now }
 {
-    let (link, rest) = word.split_at(ahead_of_dot(word));
-    match rest.split_first() {
-        Some((_, lane)) => from_digits(link, lane),
-        None => Err(Mistake::NotAHop),
-    }
+    let dot = dot(word).ok_or(Mistake::NotAHop)?;
+    from_digits(&word[..dot], &word[dot + 1..])
 }

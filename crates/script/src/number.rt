@@ -28,6 +28,7 @@ pub(crate) fn decimal(word: &[u8], most: u32) -> Result<u32, Mistake>
             return Err(Mistake::NumberTooLarge);
         }
     }
+    // the cast is proved to lose nothing
     Ok(value as u32)
 }
 
@@ -35,5 +36,6 @@ pub(crate) fn decimal(word: &[u8], most: u32) -> Result<u32, Mistake>
 pub(crate) fn number(word: &[u8]) -> Result<u16, Mistake>
     ensures { result ≡ decimal_of 65535 word.now }
 {
+    // the cast is proved to lose nothing
     Ok(decimal(word, 65535)? as u16)
 }

@@ -16,7 +16,7 @@ use routes::hop::Hop;
 use routes::stream::Request;
 use std::alloc::Global;
 
-// The turn rule that a word names. No `TryFrom`, since the rule is another crate's type and these words are the script's.
+// The turn rule that a word names. No `TryFrom`: the rule is another crate's type, and these words are the script's.
 fn turn_rule(word: &[u8]) -> Result<TurnRule, Mistake>
     ensures { result ≡ rule_of word.now }
 {
@@ -108,7 +108,7 @@ impl<'a> Words<'a> {
     }
 }
 
-// The command of a name, with the words behind it. A match and not closures: the names are a closed set.
+// The command of a name, with the words behind it. A match and not closures: the name is read from input.
 fn named(heap: Global, name: &[u8], words: &mut Words<'_>) -> Result<Command, Mistake>
     ensures { Parses instruction_of (NeedsMemory (name.now ∷ words.old)) (named_instruction name.now words.old) result }
 {

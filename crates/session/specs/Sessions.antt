@@ -15,7 +15,7 @@ use Rattle.script.specs.Commands.{Instruction, mesh, link, turn, judge, command_
 use Rattle.session.specs.declared.answer.Answer.{Answer}
 use Rattle.session.specs.declared.answer.Answer.TheVariants.{Made, Ends, Turn, Accepted}
 use Rattle.session.specs.declared.failure.Failure.{Failure}
-use Rattle.session.specs.declared.failure.Failure.TheVariants.{Declined as declined_by, Mistake as mistaken}
+use Rattle.session.specs.declared.failure.Failure.TheVariants as failure
 use Rattle.session.specs.declared.failure.LineFailure.{LineFailure}
 use Rattle.session.specs.declared.session.Session.{Session}
 
@@ -26,15 +26,15 @@ Hand = Option Meaning
 abbrev pub mesh_of : Session → Hand
 mesh_of s = option_map meaning_of s.mesh
 
--- the outcome of a command: its answer, or why it has none
-abbrev pub Outcome : Type 0
-Outcome = Result Answer Failure
+-- the response to a command: its answer, or why it has none
+abbrev pub Response : Type 0
+Response = Result Answer Failure
 
 -- a mesh is made where its size is in range; else the refusal leaves what is at hand
-abbrev pub Makes : Hand → TurnRule → ℕ → ℕ → Outcome → Hand → Type 0
+abbrev pub Makes : Hand → TurnRule → ℕ → ℕ → Response → Hand → Type 0
 Makes before rule w h r after =
     (InRange w h × (r ≡ Ok (Made (mesh_meaning rule w h).tiles (mesh_meaning rule w h).links)) × (after ≡ Some (mesh_meaning rule w h)))
-    ⊎ ((InRange w h → ⊥) × (r ≡ Err (declined_by (no_hop MeshSize))) × (after ≡ before))
+    ⊎ ((InRange w h → ⊥) × (r ≡ Err (failure.Declined (no_hop MeshSize))) × (after ≡ before))
 
 -- What a route is judged by on the mesh at hand: 4 lanes and a capacity of 65535, the most that a grid has, and no link
 -- bears a load.
@@ -42,32 +42,32 @@ abbrev pub unloaded : Meaning → Terms
 unloaded m = record { layout = m; lanes = 4; capacity = 65535; load = λ _. 0 }
 
 -- a route is accepted, or declined by a check
-abbrev pub judged : Option Declined → Outcome
+abbrev pub judged : Option Declined → Response
 judged None = Ok Accepted
-judged (Some d) = Err (declined_by d)
+judged (Some d) = Err (failure.Declined d)
 
-abbrev pub Answers : Hand → Instruction → Outcome → Hand → Type 0
+abbrev pub Answers : Hand → Instruction → Response → Hand → Type 0
 Answers before (mesh rule w h) r after = Makes before rule w h r after
-Answers None (link k) r after = (r ≡ Err (mistaken NoMesh)) × (after ≡ None)
+Answers None (link k) r after = (r ≡ Err (failure.Mistake NoMesh)) × (after ≡ None)
 Answers (Some m) (link k) r after = (r ≡ Ok (Ends (m.start k) (m.end k))) × (after ≡ Some m)
-Answers None (turn a b) r after = (r ≡ Err (mistaken NoMesh)) × (after ≡ None)
+Answers None (turn a b) r after = (r ≡ Err (failure.Mistake NoMesh)) × (after ≡ None)
 Answers (Some m) (turn a b) r after = (r ≡ Ok (Turn (m.turn a b))) × (after ≡ Some m)
-Answers None (judge q hops) r after = (r ≡ Err (mistaken NoMesh)) × (after ≡ None)
+Answers None (judge q hops) r after = (r ≡ Err (failure.Mistake NoMesh)) × (after ≡ None)
 Answers (Some m) (judge q hops) r after = (r ≡ judged (judgement (unloaded m) q hops)) × (after ≡ Some m)
 
--- what is printed for a line: the answer to its command, or the failure with the line's number
+-- the reply to a line: the answer to its command, or the failure with the line's number
 abbrev pub Reply : Type 0
 Reply = Result Answer LineFailure
 
-abbrev pub reply_of : ℕ → Outcome → Reply
+abbrev pub reply_of : ℕ → Response → Reply
 reply_of n (Ok a) = Ok a
 reply_of n (Err f) = Err (record { line = n; failure = f })
 
 -- the reply to a line that says something, nothing, or is mistaken
 abbrev pub RepliesTo : Hand → ℕ → Read (Option Instruction) → Option Reply → Hand → Type 0
 RepliesTo before n (Ok None) r after = (r ≡ None) × (after ≡ before)
-RepliesTo before n (Ok (Some i)) r after = (o : Outcome) × (r ≡ Some (reply_of n o)) × Answers before i o after
-RepliesTo before n (Err m) r after = (r ≡ Some (reply_of n (Err (mistaken m)))) × (after ≡ before)
+RepliesTo before n (Ok (Some i)) r after = (a : Response) × (r ≡ Some (reply_of n a)) × Answers before i a after
+RepliesTo before n (Err m) r after = (r ≡ Some (reply_of n (Err (failure.Mistake m)))) × (after ≡ before)
 
 -- the reply to a line; or, where memory is needed, that it ran out, with all at hand as before
 abbrev pub Replies : Hand → ℕ → List ℕ → Option Reply → Hand → Type 0

@@ -6,7 +6,7 @@ use Rattle.script.specs.Mistakes.{text_of}
 use Rattle.session.specs.declared.answer.Answer.{Answer}
 use Rattle.session.specs.declared.answer.Answer.TheVariants.{Made, Ends, Turn, Accepted}
 use Rattle.session.specs.declared.failure.Failure.{Failure}
-use Rattle.session.specs.declared.failure.Failure.TheVariants.{Declined, Mistake}
+use Rattle.session.specs.declared.failure.Failure.TheVariants as failure
 use Rattle.session.specs.declared.failure.LineFailure.{LineFailure}
 
 -- refused NUMBER, or refused NUMBER hop HOP
@@ -23,8 +23,8 @@ answer_text Accepted = codes "ok"
 
 -- why the call was declined, or error LINE: what is wrong
 abbrev pub failed_text : ℕ → Failure → List ℕ
-failed_text line (Declined declined) = refused_text (refusal_number declined.refusal) declined.hop
-failed_text line (Mistake mistake) = codes "error " ++ (decimal line ++ (codes ": " ++ text_of mistake))
+failed_text line (failure.Declined declined) = refused_text (refusal_number declined.refusal) declined.hop
+failed_text line (failure.Mistake mistake) = codes "error " ++ (decimal line ++ (codes ": " ++ text_of mistake))
 
 abbrev pub failure_text : LineFailure → List ℕ
 failure_text f = failed_text f.line f.failure

@@ -6,7 +6,7 @@ use layouts::turn::Turn;
 use std::fmt;
 
 /// The answer to a command.
-#[derive(Clone, Copy)]
+#[derive(Clone, Copy, PartialEq, Eq, Debug)]
 pub enum Answer {
     /// A mesh was made: its counts of tiles and links.
     Made(u16, u16),

@@ -10,7 +10,7 @@ use script::mistake::Mistake;
 use std::fmt;
 
 /// Why a command has no answer.
-#[derive(Clone, Copy)]
+#[derive(Clone, Copy, PartialEq, Eq, Debug)]
 pub enum Failure {
     /// The call was declined: why, and at which hop where one is told.
     Declined(Declined),
@@ -43,14 +43,14 @@ impl From<Mistake> for Failure {
 }
 
 /// A failure with the number of its line, counted from 1.
-#[derive(Clone, Copy)]
+#[derive(Clone, Copy, PartialEq, Eq, Debug)]
 pub struct LineFailure {
     pub line: u64,
     pub failure: Failure,
 }
 
 impl fmt::Display for LineFailure {
-    ghost output = { λ failure. Some (failure_text failure) };
+    ghost output = { λ it. Some (failure_text it) };
 
     fn fmt<W: fmt::Write>(&self, f: &mut fmt::Formatter<W>) -> fmt::Result {
         let line = self.line;

@@ -5,13 +5,12 @@ ghost use Rattle.layouts.specs.Mesh.{meaning_of};
 ghost use Rattle.routes.specs.Checks.{judgement, verdict};
 ghost use Rattle.script.specs.Commands.{instruction_of};
 ghost use Rattle.script.specs.declared.mistake.Mistake.TheVariants.{NoMesh};
-ghost use Rattle.session.specs.Sessions.{mesh_of, Makes, unloaded, Answers, Replies};
+ghost use Rattle.session.specs.Sessions.{mesh_of, unloaded, Answers, Replies};
 
 use crate::answer::Answer;
 use crate::failure::{Failure, LineFailure};
 use layouts::layout::Layout;
 use layouts::mesh::Mesh;
-use layouts::turn_rule::TurnRule;
 use routes::declined::Declined;
 use routes::hop::Hop;
 use routes::judge::{Limits, judge};
@@ -34,9 +33,8 @@ fn judge_unloaded(mesh: &Mesh, request: Request, hops: &[Hop]) -> Result<(), Dec
     judge(mesh, limits, request, hops)
 }
 
+// No `Model`: a session is `Copy`, and the model of such a type would have to give the mesh back.
 /// What a script has at hand: the mesh that it made last, if any.
-///
-/// It has no `Model`: a session is `Copy`, and the model of such a type would have to give the mesh back.
 #[derive(Clone, Copy)]
 pub struct Session {
     mesh: Option<Mesh>,
@@ -57,22 +55,18 @@ impl Session {
         self.mesh.ok_or(Mistake::NoMesh)
     }
 
-    // Makes a mesh, which takes the place of the one at hand unless it is refused.
-    fn make(&mut self, rule: TurnRule, width: u16, height: u16) -> Result<Answer, Failure>
-        ensures { Makes (mesh_of self.old) rule width height result (mesh_of self.new) }
-    {
-        let mesh = Mesh::new(rule, width, height)?;
-        self.mesh = Some(mesh);
-        Ok(Answer::Made(mesh.tiles(), mesh.links()))
-    }
-
-    /// The answer to a command. A refusal or a mistake leaves the mesh at hand as it was.
+    /// The answer to a command. A mesh that is made takes the place of the one at hand; a refusal or a mistake leaves it as
+    /// it was.
     pub fn answer(&mut self, command: Command) -> Result<Answer, Failure>
         ensures { Answers (mesh_of self.old) (instruction_of command) result (mesh_of self.new) }
     {
-        // A match and not a closure for each command: commands are a closed set, and each brings other values.
+        // A match and not a closure for each command: the command is read from input, and each brings other values.
         match command {
-            Command::Mesh(rule, width, height) => self.make(rule, width, height),
+            Command::Mesh(rule, width, height) => {
+                let mesh = Mesh::new(rule, width, height)?;
+                self.mesh = Some(mesh);
+                Ok(Answer::Made(mesh.tiles(), mesh.links()))
+            }
             Command::Link(link) => {
                 let mesh = self.mesh()?;
                 Ok(Answer::Ends(mesh.start(link), mesh.end(link)))
@@ -95,14 +89,14 @@ impl Session {
     ) -> Option<Result<Answer, LineFailure>>
         ensures { Replies (mesh_of self.old) number line.now result (mesh_of self.new) }
     {
-        let at_line = |failure| LineFailure {
+        let response = match parse(heap, line) {
+            Ok(None) => return None,
+            Ok(Some(command)) => self.answer(command),
+            Err(mistake) => Err(mistake.into()),
+        };
+        Some(response.map_err(|failure| LineFailure {
             line: number,
             failure,
-        };
-        match parse(heap, line) {
-            Ok(None) => None,
-            Ok(Some(command)) => Some(self.answer(command).map_err(at_line)),
-            Err(mistake) => Some(Err(at_line(mistake.into()))),
-        }
+        }))
     }
 }

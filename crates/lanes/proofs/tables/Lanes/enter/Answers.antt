@@ -4,14 +4,14 @@ use Rattle.lanes.proofs.tables.Lanes.enter.Goals as goal
 
 pub returns : goal.returns
 returns g c =
-    let reach = c.requires.reach in
+    let lane = c.requires.lane in
     let is = c.index-ring.ensures in
     let n = c.args.stream in
     let x = c.args.item in
     record {
-      queue = entered_queue reach is n x c.requires.room;
-      place = entered_place reach is n x c.requires.room;
-      others = entered_others reach is n x c.requires.room;
-      slots = entered_slots reach is n x c.requires.room;
+      queue = entered_queue lane is n x c.requires.room;
+      place = entered_place lane is n x c.requires.room;
+      others = entered_others lane is n x c.requires.room;
+      slots = entered_slots lane is n x c.requires.room;
       size = refl;
     }

@@ -4,11 +4,11 @@ use Rattle.lanes.proofs.tables.Lanes.leave.Goals as goal
 
 pub returns : goal.returns
 returns g c =
-    let reach = c.requires.reach in
+    let lane = c.requires.lane in
     let is = c.index-ring.ensures in
     record {
-      queue = left_queue reach is c.requires.some c.first-front.result c.first-front.ensures;
-      place = left_place reach is c.requires.some;
-      others = left_others reach is c.requires.some;
+      queue = left_queue lane is c.requires.some c.first-front.result c.first-front.ensures;
+      place = left_place lane is c.requires.some;
+      others = left_others lane is c.requires.some;
       size = refl;
     }

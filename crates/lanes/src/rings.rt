@@ -1,6 +1,5 @@
 // The ring of one lane: an item at its back, and its front. That lane k is there, with slots enough for all lanes, is asked
-// at each call and held by no type, since the slots are lent at each call. Casts widen; they compute in a proof, and a
-// call of `from` does not.
+// at each call: the slots are lent for one call, so no type that outlives a call can hold it.
 ghost use Rattle.std.specs.Prelude.{◌≡◌, ◌<◌, ◌∷◌, drop};
 ghost use Rattle.lanes.specs.Queues.{ring_at, queue_at, HasLane, Enters, Leaves};
 
@@ -17,6 +16,7 @@ impl Lanes {
     {
         let depth = self.size.depth;
         let ring = self.rings[k];
+        // casts, since these compute in the proof and a call of `from` does not
         let slot = k * depth as usize + ((ring.first + ring.count) % depth) as usize;
         slots[slot] = item;
         self.owners[slot] = stream;
@@ -33,6 +33,7 @@ impl Lanes {
         requires some { 0 < (ring_at self.now k).count }
         ensures { queue_at self.now slots.now k ≡ result ∷ drop 1 (queue_at self.now slots.now k) }
     {
+        // casts, as in `enter`
         let slot = k * self.size.depth as usize + self.rings[k].first as usize;
         (self.owners[slot], slots[slot])
     }

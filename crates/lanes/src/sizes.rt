@@ -1,5 +1,4 @@
-// Sizes in range, and how the lanes and the slots of a grid are counted. Casts widen; they compute in a proof, and a call
-// of `from` does not.
+// Sizes in range, and how the lanes and the slots of a grid are counted.
 ghost use Rattle.std.specs.Prelude.{◌≡◌, ◌<◌, true, false, MatchResult};
 ghost use Rattle.refusals.specs.declared.refusal.Refusal.TheVariants.{GridSize};
 ghost use Rattle.lanes.specs.Sizes.{size_fits, holds, lane_of, lane_count, slot_count};
@@ -41,6 +40,7 @@ impl Size {
     pub fn slots(self) -> usize
         ensures { result ≡ slot_count self }
     {
+        // casts, as in `lane`
         self.links as usize * self.lanes as usize * self.depth as usize
     }
 
@@ -57,6 +57,7 @@ impl Size {
         ensures value { result ≡ lane_of self hop }
         ensures within { result < lane_count self }
     {
+        // casts, since these compute in the proof and a call of `from` does not
         hop.link as usize * self.lanes as usize + hop.lane as usize
     }
 }

@@ -3,7 +3,7 @@ ghost use Rattle.std.specs.Prelude.{◌≡◌, ◌≤◌, length};
 
 use crate::hop::Hop;
 
-// A table with a count: to open a stream allocates nothing, as a `Vec` would, and a route is `Copy`, which the library's
+// A table with a count: to open a stream allocates nothing, where a `Vec` would, and a route is `Copy`, which the library's
 // `ArrayVec` is not.
 /// A list of 1 to 24 hops: those of the table up to `count`.
 #[derive(Clone, Copy)]

@@ -6,7 +6,7 @@ ghost use Rattle.script.specs.Numbers.{decimal_of};
 
 use crate::mistake::Mistake;
 
-// Whether every byte is a decimal digit.
+// Whether every byte is a decimal digit. A function, since the proof does not close with the chain in `decimal`.
 fn all_digits(word: &[u8]) -> bool
     ensures { result ≡ list_all is_ascii_digit word.now }
 {
@@ -21,6 +21,7 @@ pub(crate) fn decimal(word: &[u8], most: u32) -> Result<u32, Mistake>
     if word.is_empty() || !all_digits(word) {
         return Err(Mistake::NotANumber);
     }
+    // a loop over the bytes that stops where the number is too large: a `try_fold` would say no more
     let mut value: u64 = 0;
     for byte in word {
         value = value * 10 + u64::from(byte.saturating_sub(b'0'));

@@ -82,6 +82,7 @@ impl<'a> Words<'a> {
     fn hops(&mut self, heap: Global) -> Result<Vec<Hop>, Mistake>
         ensures { Parses vec_items (Unit {0}) (hops_in self.old) result }
     {
+        // a loop that pushes, since `try_collect` does not say that it fails where a hop does
         let mut hops = Vec::new(heap);
         for word in self.by_ref() {
             hops.push(hop(word)?)?;

@@ -18,6 +18,7 @@ pub enum Failure {
     Mistake(Mistake),
 }
 
+// The conversions are written out, since the `From` that `thiserror` writes has no contract.
 impl From<Declined> for Failure {
     ghost from_gives = { λ declined result. result ≡ failure.Declined declined };
 

@@ -16,6 +16,10 @@ use Rattle.routes.proofs.Firsts.{first_append}
 use Rattle.routes.proofs.Judging.{acceptable, accepted}
 
 module _ (t : Terms) (q : Request) (hops : List Hop) where
+  -- what some of the checks hop by hop tell
+  abbrev pub told_by : List Check → Option Declined
+  told_by checks = first_of (map (hop_check t q hops) checks)
+
   after_fields : (o : Option Declined) → first_of (field_checks t.layout q) ≡ o → judgement t q hops ≡ option_or o (first_of (route_checks t q hops))
   unfolding judgement
   after_fields o e = first_append (field_checks t.layout q) (route_checks t q hops) ∙ ap (λ p. option_or p (first_of (route_checks t q hops))) e
@@ -24,29 +28,29 @@ module _ (t : Terms) (q : Request) (hops : List Hop) where
   fields_declined d e = after_fields (Some d) e
 
   module _ (fields : first_of (field_checks t.layout q) ≡ None) where
-    by_count : (fits : Bool) → count_fits hops ≡ fits → judgement t q hops ≡ option_or (unless fits HopCount) (first_of (map (hop_check t q hops) hop_checks))
-    by_count fits e = after_fields None fields ∙ ap (λ b. option_or (unless b HopCount) (first_of (map (hop_check t q hops) hop_checks))) e
+    by_count : (fits : Bool) → count_fits hops ≡ fits → judgement t q hops ≡ option_or (unless fits HopCount) (told_by hop_checks)
+    by_count fits e = after_fields None fields ∙ ap (λ b. option_or (unless b HopCount) (told_by hop_checks)) e
 
     pub count_declined : count_fits hops ≡ false → judgement t q hops ≡ Some (no_hop HopCount)
     count_declined = by_count false
 
-    pub hop_by_hop : count_fits hops ≡ true → judgement t q hops ≡ first_of (map (hop_check t q hops) hop_checks)
+    pub hop_by_hop : count_fits hops ≡ true → judgement t q hops ≡ told_by hop_checks
     hop_by_hop = by_count true
 
   -- The loop over the checks: those that are left tell the judgement.
   abbrev pub Left : List Check → ℕ → Type 0
-  Left checks i = judgement t q hops ≡ first_of (map (hop_check t q hops) (drop i checks))
+  Left checks i = judgement t q hops ≡ told_by (drop i checks)
 
   module _ (checks : List Check) (n i : ℕ) (long : length checks ≡ n) (left : Left checks i) where
     -- the check at hand, by the first hop that fails it, and the checks behind it
     pub next_check : (d : Check) (failing : Option ℕ) → i < n → failing ≡ first_below (length hops) (fails t q hops (get_or checks i d))
-        → judgement t q hops ≡ option_or (at_hop (refusal_of (get_or checks i d)) failing) (first_of (map (hop_check t q hops) (drop (i + 1) checks)))
+        → judgement t q hops ≡ option_or (at_hop (refusal_of (get_or checks i d)) failing) (told_by (drop (i + 1) checks))
     next_check d failing l e =
-        left ∙ at_drop_more (λ cs. first_of (map (hop_check t q hops) cs)) checks i d (omega arith)
-        ∙ ap (λ o. option_or (at_hop (refusal_of (get_or checks i d)) o) (first_of (map (hop_check t q hops) (drop (i + 1) checks)))) (sym e)
+        left ∙ at_drop_more told_by checks i d (omega arith)
+        ∙ ap (λ o. option_or (at_hop (refusal_of (get_or checks i d)) o) (told_by (drop (i + 1) checks))) (sym e)
 
     pub none_left : n ≤ i → judgement t q hops ≡ None
-    none_left l = left ∙ at_drop_all (λ cs. first_of (map (hop_check t q hops) cs)) checks i (omega arith)
+    none_left l = left ∙ at_drop_all told_by checks i (omega arith)
 
   meets : (o : Option Declined) → judgement t q hops ≡ o → MatchResult (verdict o) (λ _. Acceptable t q hops) (λ _. Acceptable t q hops → ⊥)
   meets None e = acceptable t q hops e

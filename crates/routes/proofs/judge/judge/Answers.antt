@@ -1,22 +1,25 @@
-use Rattle.std.proofs.Common.{◌≡◌, true, false, map, length, get_or, Some, None, Err, sym, refl, ap, ◌∙◌, rules}
+use Rattle.std.proofs.Common.{◌≡◌, ℕ, Bool, true, false, length, get_or, Some, None, Err, sym, refl, ap, ◌∙◌, rules}
 use Rattle.std.proofs.lemmas.Iterator.{first_from_Range}
 use Rattle.std.proofs.lemmas.Result.{err_from_is_err_and}
 use borrow.Author.Tests.{tests}
 use Rattle.routes.specs.declared.check.Check.TheVariants.{OnGrid}
-use Rattle.routes.specs.Checks.{terms_of, fails, hop_check}
-use Rattle.routes.specs.Firsts.{first_of, first_below}
+use Rattle.routes.specs.Checks.{terms_of, fails}
+use Rattle.routes.specs.Firsts.{first_below}
 use Rattle.routes.proofs.Firsts.{first_below_found}
-use Rattle.routes.proofs.Verdicts.{fields_declined, count_declined, hop_by_hop, next_check, none_left, judges, declined_by, passed_by}
+use Rattle.routes.proofs.Verdicts.{told_by, fields_declined, count_declined, hop_by_hop, next_check, none_left, judges, declined_by, passed_by}
 use Rattle.routes.proofs.judge.judge.Given as given
 use Rattle.routes.proofs.judge.judge.Goals as goal
 use Rattle.routes.proofs.judge.judge.Goals.{After-find}
 
--- the search stops at the first hop that fails the check
-searched : (g : given.Over) (c : After-find g)
-    → c.find.result ≡ first_below (length c.args.hops.now) (fails (terms_of (g.L.Layout.meaning c.args.layout.now) c.args.limits) c.args.request c.args.hops.now (get_or c.all-check-items.result c.loop-check.check-index OnGrid))
+-- whether a hop fails the check at hand
+abbrev test : (g : given.Over) → After-find g → ℕ → Bool
+test g c = fails (terms_of (g.L.Layout.meaning c.args.layout.now) c.args.limits) c.args.request c.args.hops.now (get_or c.all-check-items.result c.loop-check.check-index OnGrid)
+
+-- the search stops at the first hop that does
+searched : (g : given.Over) (c : After-find g) → c.find.result ≡ first_below (length c.args.hops.now) (test g c)
 searched g c =
-    let test = fails (terms_of (g.L.Layout.meaning c.args.layout.now) c.args.limits) c.args.request c.args.hops.now (get_or c.all-check-items.result c.loop-check.check-index OnGrid) in
-    first_below_found test _ _ (first_from_Range _ _ _ _ (λ k. test k ≡ true) (λ k. test k ≡ false) c.find.ensures.ran (λ k f e. search (rules, tests)) (λ k f e. search (rules, tests)))
+    first_below_found (test g c) _ _
+    (first_from_Range _ _ _ _ (λ k. test g c k ≡ true) (λ k. test g c k ≡ false) c.find.ensures.ran (λ k f e. search (rules, tests)) (λ k f e. search (rules, tests)))
 
 pub returns-in_err-judge_fields : goal.returns-in_err-judge_fields
 returns-in_err-judge_fields g c =
@@ -30,7 +33,7 @@ returns-then-not-count_fits g c =
 pub loop-check-init : goal.loop-check-init
 loop-check-init g c =
     hop_by_hop _ _ _ (passed_by _ c.in_ok-judge_fields.ensures) (sym c.if-not-count_fits.ensures)
-    ∙ ap (λ checks. first_of (map (hop_check (terms_of (g.L.Layout.meaning c.args.layout.now) c.args.limits) c.args.request c.args.hops.now) checks)) (sym c.all-check-items.ensures)
+    ∙ ap (told_by (terms_of (g.L.Layout.meaning c.args.layout.now) c.args.limits) c.args.request c.args.hops.now) (sym c.all-check-items.ensures)
 
 pub returns-in-Some : goal.returns-in-Some
 returns-in-Some g c =

@@ -1,3 +1,6 @@
 pub mod RingPlaces
 pub mod Cells
 pub mod Queues
+pub mod LaneChecks
+pub mod LaneTables
+pub mod Handled

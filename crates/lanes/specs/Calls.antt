@@ -1,27 +1,25 @@
 -- What the calls on lanes answer and leave.
-use Rattle.std.specs.Prelude.{◌≡◌, ℕ, true, cond, List, [], ◌∷◌, length, Some, None, Option}
-use Rattle.refusals.specs.declared.refusal.Refusal.TheVariants.{TooFewSlots, OffGrid, LaneFull, LaneEmpty}
-use Rattle.routes.specs.declared.declined.Declined.{Declined}
+use Rattle.std.specs.Prelude.{◌≡◌, ℕ, ◌<◌, ◌≤◌, true, cond, List, [], ◌∷◌, length, Some, None, Option}
+use Rattle.refusals.specs.declared.refusal.Refusal.TheVariants.{LaneFull}
 use Rattle.routes.specs.declared.hop.Hop.{Hop}
 use Rattle.routes.specs.Firsts.{first_of}
-use Rattle.routes.specs.Routes.{is_on_grid}
-use Rattle.routes.specs.Checks.{no_hop, unless}
-use Rattle.model.specs.Grid.{Setting, Queue, Grid, enqueue, enough_slots, has_room}
-use Rattle.model.specs.Calls.{Answer, done, Outcome, refuse, unless_declined, forward}
+use Rattle.routes.specs.Checks.{unless}
+use Rattle.model.specs.Grid.{Setting, Grid, enqueue, has_room}
+use Rattle.model.specs.Calls.{Answer, done, Outcome, unless_declined, lane_refusal, step_front}
 use Rattle.model.specs.Runs.{is_declined}
-use Rattle.model.specs.Slots.{stored}
+use Rattle.model.specs.Slots.{front_arrival, stored}
+use Rattle.lanes.specs.declared.size.Size.{Size}
 use Rattle.lanes.specs.declared.tables.Lanes.{Lanes}
-use Rattle.lanes.specs.Sizes.{setting_of}
+use Rattle.lanes.specs.Sizes.{holds, lane_of, lane_count, slot_count, setting_of}
 use Rattle.lanes.specs.Queues.{queues_of}
 
--- what declines a call that names a lane: too few item slots, or a link or a lane that is not there
-unfoldable pub lane_refusal : Setting → Hop → Option Declined
-lane_refusal S h = first_of (unless (enough_slots S) TooFewSlots ∷ (unless (is_on_grid S.links S.lanes h) OffGrid ∷ []))
-
--- the front of a lane goes on to the hop that is named for it, or out
-abbrev pub front_to : {T : Type 0} → Setting → Grid T → Hop → ((ℕ × T) → Option Hop) → Queue T → Outcome T
-front_to S g h next [] = refuse (no_hop LaneEmpty) g
-front_to S g h next (item ∷ rest) = forward S g h.link h.lane item rest (next item)
+-- Nothing declines a call on the lane of a hop, which is lane k.
+pub record Found (s : Size) (slots : ℕ) (h : Hop) (k : ℕ) : Type 0 where
+  pub free : lane_refusal (setting_of s slots) h ≡ None
+  pub lane : k ≡ lane_of s h
+  pub on_grid : holds s h ≡ true
+  pub there : k < lane_count s
+  pub enough : slot_count s ≤ slots
 
 -- an item comes to the back of a lane, unless the lane is full
 abbrev pub pushing : {T : Type 0} → Setting → Grid T → Hop → (ℕ × T) → Outcome T
@@ -31,13 +29,17 @@ pushing S g h item =
 
 -- the front of a lane goes out
 abbrev pub popping : {T : Type 0} → Setting → Grid T → Hop → Outcome T
-popping S g h = unless_declined (lane_refusal S h) g (front_to S g h (λ _. None) (g.contents h.link h.lane))
+popping S g h = unless_declined (lane_refusal S h) g (step_front S g h (λ _. None) (g.contents h.link h.lane))
 
 -- the front of a lane goes to the back of another, unless that is full
 abbrev pub moving : {T : Type 0} → Setting → Grid T → Hop → Hop → Outcome T
 moving S g h to =
-    unless_declined (first_of (lane_refusal S h ∷ (unless (is_on_grid S.links S.lanes to) OffGrid ∷ []))) g
-    (front_to S g h (λ _. Some to) (g.contents h.link h.lane))
+    unless_declined (first_of (lane_refusal S h ∷ (lane_refusal S to ∷ []))) g
+    (step_front S g h (λ _. Some to) (g.contents h.link h.lane))
+
+-- the lane at whose back the front of a lane arrives, with the item
+abbrev pub moving_arrival : {T : Type 0} → Grid T → Hop → Hop → Option (Hop × T)
+moving_arrival g h to = front_arrival (λ _. Some to) (g.contents h.link h.lane)
 
 -- A call on the lanes has its outcome: it answers so, and leaves the lanes so; the slots are as before but for the item
 -- that arrives, if one does; the size stays; and if it is declined, all tables stay as they are.

@@ -1,6 +1,7 @@
 // The queues of the lanes, over item slots that are lent at each call.
 #![tactic(auto)]
 
+mod calls;
 mod ring;
 mod rings;
 pub mod size;

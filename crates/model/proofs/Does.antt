@@ -9,7 +9,7 @@ use Rattle.routes.specs.Loads.{stream_count}
 use Rattle.routes.specs.Routes.{hop_on}
 use Rattle.model.specs.Grid.{Setting, Queue, Grid, with_stream, with_queue, enqueue, enough_slots, has_room, route_of, second}
 use Rattle.model.specs.Sums.{item_count_of}
-use Rattle.model.specs.Calls.{Call, opens, closes, sends, steps, declined, done, moved, out, Outcome, unless_declined, open_refusal, close_refusal, room_at_first, enter, send_refusal, forward, step_front, stepping, outcome}
+use Rattle.model.specs.Calls.{Call, opens, closes, sends, steps, declined, done, moved, out, Outcome, unless_declined, open_refusal, close_refusal, room_at_first, enter, send_refusal, forward, step_front, next_of, stepping, outcome}
 use Rattle.model.proofs.Kept.{Kept, Front, all_placed}
 
 -- The outcome of a call: it is declined; or a stream is opened or closed; or an item is sent, passes to its next hop, or
@@ -37,12 +37,12 @@ module _ {T : Type 0} (S : Setting) (g : Grid T) (kept : Kept S g) where
   does_enter n x (first ∷ rest) route slots room = sent first rest slots route
 
   does_forward : {link lane : ℕ} {item : ℕ × T} {queue : Queue T} (rest : List Hop) → Front g link lane item queue rest
-      → Does S g (steps link lane) (forward S g link lane item queue (second (hop_on link lane ∷ rest)))
+      → Does S g (steps link lane) (forward S g (hop_on link lane) item queue (second (hop_on link lane ∷ rest)))
   does_forward [] front = left front
   does_forward {link} {lane} (next ∷ rest) front =
       cond_both (has_room S g next) _ _ (Does S g (steps link lane)) (λ _. passed front) (λ _. refused)
 
-  does_front : (link lane : ℕ) (queue : Queue T) → g.contents link lane ≡ queue → Does S g (steps link lane) (step_front S g link lane queue)
+  does_front : (link lane : ℕ) (queue : Queue T) → g.contents link lane ≡ queue → Does S g (steps link lane) (step_front S g (hop_on link lane) (next_of g link) queue)
   does_front link lane [] is = refused
   does_front link lane (item ∷ queue) is =
       let p = (all_placed S g kept link lane (item ∷ queue) is).0 in

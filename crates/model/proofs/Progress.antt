@@ -6,7 +6,7 @@ use Rattle.std.proofs.lemmas.Bool.Decides.{nat_tests}
 use Rattle.routes.specs.declared.hop.Hop.{Hop}
 use Rattle.routes.specs.Routes.{hop_on}
 use Rattle.model.specs.Grid.{Setting, Queue, Grid, enough_slots, has_room, route_of}
-use Rattle.model.specs.Calls.{stepping}
+use Rattle.model.specs.Calls.{lane_refusal, stepping}
 use Rattle.model.specs.Law.{WillStep, NoLaneWillStep}
 use Rattle.model.proofs.Routes.{OnGrid, hops_from_inherits}
 use Rattle.model.proofs.LaneSums.{sum_of_lanes, sum_of_lanes_at}
@@ -34,7 +34,7 @@ module _ {T : Type 0} (S : Setting) (deep : 1 ≤ S.depth) (g : Grid T) (kept : 
   -- A lane with a front item will step, or waits for a lane of a higher rank.
   front_steps : (h : Hop) → OnGrid S h → enough_slots S ≡ true → {item : ℕ × T} {queue : Queue T} (rest : List Hop)
       → Front g h.link h.lane item queue rest → WillStep S g h.link h.lane ⊎ Waits h
-  unfolding stepping
+  unfolding lane_refusal stepping
   front_steps h on_grid slots [] front = inl (grind (arith, nat_tests))
   front_steps h on_grid slots {item} (next ∷ rest) front =
       ⊎_elim

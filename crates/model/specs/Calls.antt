@@ -1,11 +1,13 @@
 -- The calls: what each answers, and the grid after it.
-use Rattle.std.specs.Prelude.{ℕ, Bool, false, cond, not, List, [], ◌∷◌, is_some, Some, None, Option, ◌==◌, nat_lt}
+use Rattle.std.specs.Prelude.{ℕ, Bool, false, cond, not, List, [], ◌∷◌, is_some, Some, None, Ok, Err, Option, Result, ◌==◌, nat_lt}
+use Rattle.std.specs.Option.{ok_or}
+use Rattle.refusals.specs.declared.refusal.Refusal.{Refusal}
 use Rattle.refusals.specs.declared.refusal.Refusal.TheVariants.{TooFewSlots, NoSuchStream, AlreadyOpen, NotOpen, OffGrid, ItemsOnGrid, LaneFull, LaneEmpty, Held}
 use Rattle.routes.specs.declared.declined.Declined.{Declined}
 use Rattle.routes.specs.declared.hop.Hop.{Hop}
 use Rattle.routes.specs.declared.stream.Request.{Request}
 use Rattle.routes.specs.Firsts.{first_of}
-use Rattle.routes.specs.Routes.{hop_on, is_on_grid}
+use Rattle.routes.specs.Routes.{OpenStream, hop_on, is_on_grid}
 use Rattle.routes.specs.Loads.{stream_count}
 use Rattle.routes.specs.Checks.{no_hop, unless}
 use Rattle.model.specs.Grid.{Setting, Queue, Grid, with_stream, with_queue, enqueue, enough_slots, has_room, route_of, next_hop}
@@ -25,6 +27,16 @@ pub data Answer (T : Type 0) : Type 0 where
   done : Answer T
   moved : ℕ → Answer T
   out : ℕ → T → Answer T
+
+-- the answer that a result stands for
+abbrev pub answer_of : {T A : Type 0} → (A → Answer T) → Result A Refusal → Answer T
+answer_of told (Ok a) = told a
+answer_of told (Err refusal) = declined (no_hop refusal)
+
+-- what declines by a result that is a refusal
+abbrev pub declined_by : {A : Type 0} → Result A Refusal → Option Declined
+declined_by (Ok a) = None
+declined_by (Err refusal) = Some (no_hop refusal)
 
 pub record Outcome (T : Type 0) : Type 0 where
   pub answer : Answer T
@@ -49,10 +61,14 @@ opening S g n q hops =
     unless_declined (open_refusal S g n q hops) g
     (record { answer = done; grid = with_stream g n (Some (record { request = q; hops = hops })) })
 
+-- the open stream of a number, or why there is none
+abbrev pub open_stream : (ℕ → Option OpenStream) → ℕ → Result OpenStream Refusal
+open_stream streams n = cond (nat_lt n stream_count) (ok_or (streams n) NotOpen) (Err NoSuchStream)
+
 -- Close.
 unfoldable pub close_refusal : {T : Type 0} → Setting → Grid T → ℕ → Option Declined
 close_refusal S g n =
-    first_of (unless (nat_lt n stream_count) NoSuchStream ∷ (unless (is_some (g.streams n)) NotOpen ∷ (unless (item_count_of S g n == 0) ItemsOnGrid ∷ [])))
+    first_of (declined_by (open_stream g.streams n) ∷ (unless (item_count_of S g n == 0) ItemsOnGrid ∷ []))
 
 abbrev pub closing : {T : Type 0} → Setting → Grid T → ℕ → Outcome T
 closing S g n = unless_declined (close_refusal S g n) g (record { answer = done; grid = with_stream g n None })
@@ -68,29 +84,35 @@ enter S g (h ∷ hops) item = enqueue S g h item
 
 unfoldable pub send_refusal : {T : Type 0} → Setting → Grid T → ℕ → Option Declined
 send_refusal S g n =
-    first_of (unless (enough_slots S) TooFewSlots ∷ (unless (nat_lt n stream_count) NoSuchStream
-    ∷ (unless (is_some (g.streams n)) NotOpen ∷ (unless (room_at_first S g (route_of (g.streams n))) LaneFull ∷ []))))
+    first_of (unless (enough_slots S) TooFewSlots ∷ (declined_by (open_stream g.streams n) ∷ (unless (room_at_first S g (route_of (g.streams n))) LaneFull ∷ [])))
 
 abbrev pub sending : {T : Type 0} → Setting → Grid T → ℕ → T → Outcome T
 sending S g n x =
     unless_declined (send_refusal S g n) g
     (record { answer = done; grid = enter S g (route_of (g.streams n)) (n, x) })
 
--- Step: the front item of a lane goes out if its route has no hop after this one. Else it goes to the back of that
--- hop's lane, or is held while that lane is full.
-abbrev pub forward : {T : Type 0} → Setting → Grid T → ℕ → ℕ → (ℕ × T) → Queue T → Option Hop → Outcome T
-forward S g link lane item rest None = record { answer = out item.0 item.1; grid = with_queue g link lane rest }
-forward S g link lane item rest (Some next) =
-    cond (has_room S g next) (record { answer = moved item.0; grid = enqueue S (with_queue g link lane rest) next item }) (refuse (no_hop Held) g)
+-- what declines a call that names a lane: too few item slots, or a link or a lane that is not there
+unfoldable pub lane_refusal : Setting → Hop → Option Declined
+lane_refusal S h = first_of (unless (enough_slots S) TooFewSlots ∷ (unless (is_on_grid S.links S.lanes h) OffGrid ∷ []))
 
-abbrev pub step_front : {T : Type 0} → Setting → Grid T → ℕ → ℕ → Queue T → Outcome T
-step_front S g link lane [] = refuse (no_hop LaneEmpty) g
-step_front S g link lane (item ∷ rest) = forward S g link lane item rest (next_hop link (route_of (g.streams item.0)))
+-- Step: the front item of a lane goes out if it has no next hop. Else it goes to the back of that hop's lane, or is held
+-- while that lane is full.
+abbrev pub forward : {T : Type 0} → Setting → Grid T → Hop → (ℕ × T) → Queue T → Option Hop → Outcome T
+forward S g h item rest None = record { answer = out item.0 item.1; grid = with_queue g h.link h.lane rest }
+forward S g h item rest (Some next) =
+    cond (has_room S g next) (record { answer = moved item.0; grid = enqueue S (with_queue g h.link h.lane rest) next item }) (refuse (no_hop Held) g)
+
+abbrev pub step_front : {T : Type 0} → Setting → Grid T → Hop → ((ℕ × T) → Option Hop) → Queue T → Outcome T
+step_front S g h next [] = refuse (no_hop LaneEmpty) g
+step_front S g h next (item ∷ rest) = forward S g h item rest (next item)
+
+-- the hop that follows the one over a link in the route of an item's stream
+abbrev pub next_of : {T : Type 0} → Grid T → ℕ → (ℕ × T) → Option Hop
+next_of g link item = next_hop link (route_of (g.streams item.0))
 
 unfoldable pub stepping : {T : Type 0} → Setting → Grid T → ℕ → ℕ → Outcome T
 stepping S g link lane =
-    unless_declined (first_of (unless (enough_slots S) TooFewSlots ∷ (unless (is_on_grid S.links S.lanes (hop_on link lane)) OffGrid ∷ []))) g
-    (step_front S g link lane (g.contents link lane))
+    unless_declined (lane_refusal S (hop_on link lane)) g (step_front S g (hop_on link lane) (next_of g link) (g.contents link lane))
 
 abbrev pub outcome : {T : Type 0} → Setting → Grid T → Call T → Outcome T
 outcome S g (opens n q hops) = opening S g n q hops

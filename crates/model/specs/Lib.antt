@@ -4,4 +4,5 @@ pub mod Calls
 pub mod Layouts
 pub mod Runs
 pub mod Slots
+pub mod Questions
 pub mod Law

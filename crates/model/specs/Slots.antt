@@ -2,8 +2,8 @@
 use Rattle.std.specs.Prelude.{ℕ, ◌+◌, ◌*◌, cond, List, [], ◌∷◌, Some, None, Option, slice_set}
 use Rattle.std.specs.Option.{option_map}
 use Rattle.routes.specs.declared.hop.Hop.{Hop}
-use Rattle.model.specs.Grid.{Setting, Queue, Grid, route_of, next_hop}
-use Rattle.model.specs.Calls.{Call, opens, closes, sends, steps, outcome}
+use Rattle.model.specs.Grid.{Setting, Queue, Grid, route_of}
+use Rattle.model.specs.Calls.{Call, opens, closes, sends, steps, next_of, outcome}
 use Rattle.model.specs.Runs.{is_declined}
 
 -- a lane has `depth` slots in a row; lane follows on lane, and link on link
@@ -21,10 +21,6 @@ stored S g (Some arrival) slots =
 abbrev pub first_hop : List Hop → Option Hop
 first_hop [] = None
 first_hop (h ∷ hops) = Some h
-
--- the hop that follows the one over a link in the route of an item's stream
-abbrev pub next_of : {T : Type 0} → Grid T → ℕ → (ℕ × T) → Option Hop
-next_of g link item = next_hop link (route_of (g.streams item.0))
 
 abbrev pub front_arrival : {T : Type 0} → ((ℕ × T) → Option Hop) → Queue T → Option (Hop × T)
 front_arrival next [] = None

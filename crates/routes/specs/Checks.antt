@@ -1,5 +1,5 @@
 -- The judgement of a route: the checks in their order, and the hop at which each is first failed.
-use Rattle.std.specs.Prelude.{ℕ, ◌+◌, ◌-◌, Bool, true, false, cond, not, ◌&&◌, List, [], ◌∷◌, ◌++◌, map, length, take, Some, None, Ok, Err, Option, Result, ◌==◌, nat_le, nat_lt, slice_index}
+use Rattle.std.specs.Prelude.{ℕ, ◌+◌, ◌-◌, Bool, true, false, cond, not, ◌&&◌, List, [], ◌∷◌, ◌++◌, map, length, take, Some, None, Ok, Err, Option, Result, ◌==◌, nat_le, nat_lt}
 use Rattle.std.specs.Option.{option_map}
 use Rattle.refusals.specs.declared.refusal.Refusal.{Refusal}
 use Rattle.refusals.specs.declared.refusal.Refusal.TheVariants.{BadEndpoints, ZeroAmount, HopCount, OffGrid, WrongStart, NoTurn, LaneTooLow, WrongEnd, RepeatedLink, OverCapacity}
@@ -13,7 +13,8 @@ use Rattle.routes.specs.declared.hop.Hop.{Hop}
 use Rattle.routes.specs.declared.judge.Limits.{Limits}
 use Rattle.routes.specs.declared.stream.Request.{Request}
 use Rattle.routes.specs.Firsts.{first_of, first_below}
-use Rattle.routes.specs.Routes.{count_fits, hop_at, is_on_grid, uses}
+use Rattle.routes.specs.Routes.{count_fits, hop_at, is_on_grid, streams_of, uses}
+use Rattle.routes.specs.Loads.{load}
 
 -- What a route is judged by: the layout, how many lanes a link has, what it can bear, and the load of each link.
 pub record Terms : Type 0 where
@@ -22,12 +23,8 @@ pub record Terms : Type 0 where
   pub capacity : ℕ
   pub load : ℕ → ℕ
 
--- the load of a link in a table of loads; a link past its end bears nothing
-abbrev pub load_in : List ℕ → ℕ → ℕ
-load_in loads link = slice_index loads link
-
 abbrev pub terms_of : Meaning → Limits → Terms
-terms_of m limits = record { layout = m; lanes = limits.lanes; capacity = limits.capacity; load = load_in limits.loads.now }
+terms_of m limits = record { layout = m; lanes = limits.lanes; capacity = limits.capacity; load = load (streams_of limits.streams.now) }
 
 -- a refusal that tells no hop
 abbrev pub no_hop : Refusal → Declined

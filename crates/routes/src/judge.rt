@@ -1,32 +1,26 @@
 // The judgement of a route.
 ghost use Rattle.std.specs.Prelude.{◌≡◌, ◌<◌, length};
 ghost use Rattle.routes.specs.Firsts.{first_of};
-ghost use Rattle.routes.specs.Checks.{terms_of, field_checks, lanes_fit, load_in, fails, verdict};
+ghost use Rattle.routes.specs.Checks.{terms_of, field_checks, lanes_fit, fails, verdict};
 ghost use Rattle.routes.specs.Acceptable.{Judges};
 
 use crate::check::Check;
 use crate::declined::Declined;
 use crate::hop::Hop;
+use crate::load::link_load;
 use crate::route_hops::count_fits;
-use crate::stream::{Request, uses_link};
+use crate::stream::{Request, Stream, uses_link};
 use layouts::layout::Layout;
 use layouts::turn::Turn;
 use refusals::refusal::Refusal;
 
-/// What the links of a grid offer: how many lanes each has, how much demand each can bear, and the load of each, by its
-/// number; a link past the end of the table bears nothing.
+/// What the links of a grid offer: how many lanes each has, how much demand each can bear, and the open streams, by their
+/// numbers, which load them.
 #[derive(Clone, Copy)]
 pub struct Limits<'a> {
     pub lanes: u16,
     pub capacity: u16,
-    pub loads: &'a [u32],
-}
-
-// The load of a link in a table of loads; a link past its end bears nothing.
-fn load_in(loads: &[u32], link: u16) -> u32
-    ensures { result ≡ load_in loads.now link }
-{
-    loads.get(usize::from(link)).copied().unwrap_or(0)
+    pub streams: &'a [Option<Stream>; 64],
 }
 
 // Whether a route may go from one lane to another at a turn.
@@ -65,7 +59,8 @@ fn fails<L: Layout>(
             ),
         Check::End => k + 1 == hops.len() && layout.end(hop.link) != request.target,
         Check::Once => uses_link(&hops[..k], hop.link),
-        Check::Capacity => u64::from(load_in(limits.loads, hop.link)) + u64::from(request.demand)
+        Check::Capacity => u64::from(link_load(limits.streams, hop.link))
+            + u64::from(request.demand)
             > u64::from(limits.capacity),
     }
 }

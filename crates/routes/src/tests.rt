@@ -26,10 +26,19 @@ fn judged(
         })
         .collect(heap)?;
     let (source, target, demand) = fields;
+    let mut streams = [None; 64];
+    streams[5] = Some(Stream {
+        request: Request {
+            source: 0,
+            target: 1,
+            demand: 80,
+        },
+        route: Route::new(&[Hop { link: 0, lane: 0 }])?,
+    });
     let limits = Limits {
         lanes: 3,
         capacity: 100,
-        loads: &[80],
+        streams: &streams,
     };
     Ok(judge(
         &mesh,

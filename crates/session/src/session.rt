@@ -21,6 +21,7 @@ use script::parse::parse;
 use std::alloc::Global;
 
 // Judges a route on a mesh whose links bear no load.
+#[tactic(auto, unfolding(routes::specs::Loads::load))]
 fn judge_unloaded(mesh: &Mesh, request: Request, hops: &[Hop]) -> Result<(), Declined>
     ensures { result ≡ verdict (judgement (unloaded (meaning_of mesh.now)) request hops.now) }
 {
@@ -28,7 +29,7 @@ fn judge_unloaded(mesh: &Mesh, request: Request, hops: &[Hop]) -> Result<(), Dec
     let limits = Limits {
         lanes: 4,
         capacity: 65535,
-        loads: &[],
+        streams: &[None; 64],
     };
     judge(mesh, limits, request, hops)
 }

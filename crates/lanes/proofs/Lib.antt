@@ -4,3 +4,5 @@ pub mod Queues
 pub mod LaneChecks
 pub mod LaneTables
 pub mod Handled
+pub mod LaneSums
+pub mod Items

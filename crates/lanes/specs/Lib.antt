@@ -2,3 +2,5 @@ pub mod Sizes
 pub mod Rings
 pub mod Queues
 pub mod Calls
+pub mod Blanks
+pub mod Outlines

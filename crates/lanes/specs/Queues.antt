@@ -38,9 +38,20 @@ queues_of l slots = record {
   places = by_lane l.size (place_at l) 0;
 }
 
+-- slots for all lanes, whose items are all alike
+abbrev pub alike_slots : Size → List (Unit {0})
+alike_slots s = replicate (slot_count s) tt
+
 -- The lanes without their items: which stream each item is of. It is told by the tables alone, whatever the slots hold.
+abbrev pub outline_at : Lanes → ℕ → Queue (Unit {0})
+outline_at l k = queue_at l (alike_slots l.size) k
+
 abbrev pub outline : Lanes → Grid (Unit {0})
-outline l = queues_of l (replicate (slot_count l.size) tt)
+outline l = queues_of l (alike_slots l.size)
+
+-- No lane contains an item, and the next item of each takes the first place.
+abbrev pub IsBlank : Lanes → Type 0
+IsBlank l = (k : ℕ) → ring_at l k ≡ empty_ring
 
 -- Lane k is there, and so are slots enough for all lanes.
 pub record HasLane {T : Type 0} (l : Lanes) (xs : List T) (k : ℕ) : Type 0 where

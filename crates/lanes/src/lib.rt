@@ -1,7 +1,9 @@
 // The queues of the lanes, over item slots that are lent at each call.
 #![tactic(auto)]
 
+mod blank;
 mod calls;
+mod counts;
 mod ring;
 mod rings;
 pub mod size;

@@ -1,5 +1,5 @@
 // Sizes in range, and how the lanes and the slots of a grid are counted.
-ghost use Rattle.std.specs.Prelude.{◌≡◌, ◌<◌, true, false, MatchResult};
+ghost use Rattle.std.specs.Prelude.{◌≡◌, ◌*◌, ◌<◌, ◌≤◌, true, false, MatchResult};
 ghost use Rattle.refusals.specs.declared.refusal.Refusal.TheVariants.{GridSize};
 ghost use Rattle.lanes.specs.Sizes.{size_fits, holds, lane_of, lane_count, slot_count};
 
@@ -40,8 +40,7 @@ impl Size {
     pub fn slots(self) -> usize
         ensures { result ≡ slot_count self }
     {
-        // casts, as in `lane`
-        self.links as usize * self.lanes as usize * self.depth as usize
+        self.lane_count() * self.depth as usize
     }
 
     /// Whether the link and the lane of a hop are there.
@@ -49,6 +48,15 @@ impl Size {
         ensures { result ≡ holds self hop }
     {
         hop.link < self.links && u16::from(hop.lane) < self.lanes
+    }
+
+    // How many lanes there are, counted over all links.
+    pub(crate) fn lane_count(self) -> usize
+        ensures value { result ≡ lane_count self }
+        ensures bound { result ≤ 4 * 65535 }
+    {
+        // casts, as in `lane`
+        self.links as usize * self.lanes as usize
     }
 
     // The lane of a hop, counted over all links.

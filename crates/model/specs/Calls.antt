@@ -1,5 +1,5 @@
 -- The calls: what each answers, and the grid after it.
-use Rattle.std.specs.Prelude.{ℕ, Bool, false, cond, not, List, [], ◌∷◌, is_some, Some, None, Ok, Err, Option, Result, ◌==◌, nat_lt}
+use Rattle.std.specs.Prelude.{ℕ, Bool, false, cond, List, [], ◌∷◌, is_some, Some, None, Ok, Err, Option, Result, ◌==◌, nat_lt}
 use Rattle.std.specs.Option.{ok_or}
 use Rattle.refusals.specs.declared.refusal.Refusal.{Refusal}
 use Rattle.refusals.specs.declared.refusal.Refusal.TheVariants.{TooFewSlots, NoSuchStream, AlreadyOpen, NotOpen, OffGrid, ItemsOnGrid, LaneFull, LaneEmpty, Held}
@@ -34,9 +34,9 @@ answer_of told (Ok a) = told a
 answer_of told (Err refusal) = declined (no_hop refusal)
 
 -- what declines by a result that is a refusal
-abbrev pub declined_by : {A : Type 0} → Result A Refusal → Option Declined
-declined_by (Ok a) = None
-declined_by (Err refusal) = Some (no_hop refusal)
+abbrev pub declines : {A : Type 0} → Result A Refusal → Option Declined
+declines (Ok a) = None
+declines (Err refusal) = Some (no_hop refusal)
 
 pub record Outcome (T : Type 0) : Type 0 where
   pub answer : Answer T
@@ -51,10 +51,13 @@ abbrev pub unless_declined : {T : Type 0} → Option Declined → Grid T → Out
 unless_declined None g outcome = outcome
 unless_declined (Some d) g outcome = refuse d g
 
+-- that a stream of a number can be opened, or why not
+abbrev pub vacancy : (ℕ → Option OpenStream) → ℕ → Result (Unit {0}) Refusal
+vacancy streams n = cond (nat_lt n stream_count) (cond (is_some (streams n)) (Err AlreadyOpen) (Ok tt)) (Err NoSuchStream)
+
 -- Open.
 unfoldable pub open_refusal : {T : Type 0} → Setting → Grid T → ℕ → Request → List Hop → Option Declined
-open_refusal S g n q hops =
-    first_of (unless (nat_lt n stream_count) NoSuchStream ∷ (unless (not (is_some (g.streams n))) AlreadyOpen ∷ (S.judge g.streams q hops ∷ [])))
+open_refusal S g n q hops = first_of (declines (vacancy g.streams n) ∷ (S.judge g.streams q hops ∷ []))
 
 abbrev pub opening : {T : Type 0} → Setting → Grid T → ℕ → Request → List Hop → Outcome T
 opening S g n q hops =
@@ -68,7 +71,7 @@ open_stream streams n = cond (nat_lt n stream_count) (ok_or (streams n) NotOpen)
 -- Close.
 unfoldable pub close_refusal : {T : Type 0} → Setting → Grid T → ℕ → Option Declined
 close_refusal S g n =
-    first_of (declined_by (open_stream g.streams n) ∷ (unless (item_count_of S g n == 0) ItemsOnGrid ∷ []))
+    first_of (declines (open_stream g.streams n) ∷ (unless (item_count_of S g n == 0) ItemsOnGrid ∷ []))
 
 abbrev pub closing : {T : Type 0} → Setting → Grid T → ℕ → Outcome T
 closing S g n = unless_declined (close_refusal S g n) g (record { answer = done; grid = with_stream g n None })
@@ -84,7 +87,7 @@ enter S g (h ∷ hops) item = enqueue S g h item
 
 unfoldable pub send_refusal : {T : Type 0} → Setting → Grid T → ℕ → Option Declined
 send_refusal S g n =
-    first_of (unless (enough_slots S) TooFewSlots ∷ (declined_by (open_stream g.streams n) ∷ (unless (room_at_first S g (route_of (g.streams n))) LaneFull ∷ [])))
+    first_of (unless (enough_slots S) TooFewSlots ∷ (declines (open_stream g.streams n) ∷ (unless (room_at_first S g (route_of (g.streams n))) LaneFull ∷ [])))
 
 abbrev pub sending : {T : Type 0} → Setting → Grid T → ℕ → T → Outcome T
 sending S g n x =

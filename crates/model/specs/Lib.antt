@@ -5,4 +5,5 @@ pub mod Layouts
 pub mod Runs
 pub mod Slots
 pub mod Questions
+pub mod Outlines
 pub mod Law

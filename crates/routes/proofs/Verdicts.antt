@@ -1,5 +1,5 @@
 -- The judgement of a route, step by step: the fields, the count of hops, then the checks hop by hop.
-use Rattle.std.proofs.Common.{◌≡◌, ℕ, ◌+◌, ◌<◌, ◌≤◌, Bool, true, false, List, map, length, get_or, drop, Some, None, Ok, Err, Option, Result, sym, refl, ap, ◌∙◌, arith, MatchResult}
+use Rattle.std.proofs.Common.{◌≡◌, ℕ, ◌+◌, ◌<◌, ◌≤◌, Bool, true, false, List, map, length, get_or, drop, Some, None, Option, Result, sym, ap, ◌∙◌, arith, MatchResult}
 use Rattle.std.proofs.lemmas.List.{at_drop_more, at_drop_all}
 use Rattle.std.proofs.lemmas.Option.{none-some}
 use Rattle.std.specs.Option.{option_or}
@@ -59,12 +59,3 @@ module _ (t : Terms) (q : Request) (hops : List Hop) where
   -- The answer that tells the judgement also tells whether the route is acceptable.
   pub judges : (r : Result (Unit {0}) Declined) (o : Option Declined) → r ≡ verdict o → judgement t q hops ≡ o → Judges t q hops r
   judges r o e j = rw e (record { answer = ap verdict (sym j); meets = meets o j })
-
--- an answer leads back to the check behind it
-pub declined_by : (o : Option Declined) (d : Declined) → Err d ≡ verdict o → o ≡ Some d
-declined_by None d e = cc
-declined_by (Some c) d e = cc
-
-pub passed_by : (o : Option Declined) → Ok tt ≡ verdict o → o ≡ None
-passed_by None e = refl
-passed_by (Some c) e = cc

@@ -2,4 +2,5 @@ pub mod Firsts
 pub mod Routes
 pub mod Loads
 pub mod Checks
+pub mod Verdicts
 pub mod Acceptable

@@ -1,0 +1,96 @@
+-- Opening and closing, on the outline.
+use Rattle.std.proofs.Common.{◌≡◌, ℕ, suc, ◌<◌, ◌≤◌, true, false, ◌==◌, List, [], ◌∷◌, length, get_or, Some, None, Ok, Err, Option, sym, refl, ap, ◌∙◌, arith}
+use Rattle.std.proofs.lemmas.Bool.{and_from, lt-ltb}
+use Rattle.std.proofs.lemmas.Bool.Decides.{nat_tests}
+use Rattle.std.specs.List.{list_all}
+use Rattle.refusals.specs.declared.refusal.Refusal.{Refusal}
+use Rattle.refusals.specs.declared.refusal.Refusal.TheVariants.{ItemsOnGrid}
+use Rattle.layouts.specs.Layout.{Meaning}
+use Rattle.routes.specs.declared.declined.Declined.{Declined}
+use Rattle.routes.specs.declared.hop.Hop.{Hop}
+use Rattle.routes.specs.declared.stream.Request.{Request}
+use Rattle.routes.specs.Routes.{OpenStream, hop_at}
+use Rattle.routes.specs.Checks.{Terms, no_hop}
+use Rattle.routes.specs.Acceptable.{Acceptable}
+use Rattle.model.specs.Grid.{Setting, Grid, assign, with_stream}
+use Rattle.model.specs.Calls.{Call, opens, closes, Answer, declined, done, Outcome, refuse, vacancy, open_refusal, opening, open_stream, close_refusal, closing, outcome}
+use Rattle.model.specs.Sums.{one_of, item_count_of}
+use Rattle.model.specs.Outlines.{grid_sum_same_lanes}
+use Rattle.model.specs.Slots.{arrival}
+use Rattle.lanes.specs.declared.size.Size.{Size}
+use Rattle.lanes.specs.Sizes.{holds, setting_of}
+use Rattle.lanes.specs.Queues.{queues_of}
+use Rattle.grid.specs.declared.tables.Tables.{Tables}
+use Rattle.grid.specs.Views.{streams_in, view, alike, outline, setting}
+use Rattle.grid.specs.Makes.{Makes, Same, Edits}
+use Rattle.grid.proofs.Lifted.{refused}
+
+-- a call that is declined leaves everything as it was
+pub edit_refused : (m : Meaning) (t : Tables) (c : Call (Unit {0})) (d : Declined)
+    → outcome (setting m t (length (alike t))) (outline t) c ≡ refuse d (outline t) → Edits m t c (declined d) t
+edit_refused m t c d is = record { made = refused m t (alike t) c d is; lanes = refl }
+
+-- a call that is done has put another entry in the place of a stream
+pub edited : (m : Meaning) (t t' : Tables) (n : ℕ) (entry : Option OpenStream) (c : Call (Unit {0}))
+    → streams_in t' ≡ assign (streams_in t) n entry → t'.lanes ≡ t.lanes → t'.capacity ≡ t.capacity
+    → outcome (setting m t (length (alike t))) (outline t) c ≡ record { answer = done; grid = with_stream (outline t) n entry }
+    → arrival (outline t) c ≡ None → Edits m t c done t'
+edited m t t' n entry c streams lanes capacity is arrives = record {
+  made = record {
+    answer = ap (λ o. o.answer) (sym is);
+    grid = rw (streams, lanes, is) refl;
+    slots = rw (is, arrives) refl;
+    size = ap (λ l. l.size) lanes;
+    capacity = capacity;
+    declined = λ e. cc;
+  };
+  lanes = lanes;
+}
+
+module _ (S : Setting) (g : Grid (Unit {0})) (n : ℕ) (q : Request) (hops : List Hop) where
+  pub not_vacant : (e : Refusal) → Err e ≡ vacancy g.streams n → opening S g n q hops ≡ refuse (no_hop e) g
+  unfolding open_refusal
+  not_vacant e is = rw (sym is) refl
+
+  pub not_acceptable : (d : Declined) → Ok tt ≡ vacancy g.streams n → S.judge g.streams q hops ≡ Some d → opening S g n q hops ≡ refuse d g
+  unfolding open_refusal
+  not_acceptable d vacant is = rw (sym vacant, is) refl
+
+  pub opened : Ok tt ≡ vacancy g.streams n → S.judge g.streams q hops ≡ None
+      → opening S g n q hops ≡ record { answer = done; grid = with_stream g n (Some (record { request = q; hops = hops })) }
+  unfolding open_refusal
+  opened vacant is = rw (sym vacant, is) refl
+
+-- hops that are all there
+pub all_hold : (s : Size) (hops : List Hop) → ((k : ℕ) → k < length hops → ((hop_at hops k).link < s.links) × ((hop_at hops k).lane < s.lanes))
+    → list_all (holds s) hops ≡ true
+all_hold s [] each = refl
+all_hold s (h ∷ hops) each =
+    let first = each 0 (omega arith) in
+    and_from _ _ (and_from _ _ (lt-ltb _ _ first.0) (lt-ltb _ _ first.1)) (all_hold s hops (λ k less. each (suc k) (omega arith)))
+
+pub acceptable_holds : (s : Size) (t : Terms) (q : Request) (hops : List Hop) → t.layout.links ≡ s.links → t.lanes ≡ s.lanes → Acceptable t q hops
+    → list_all (holds s) hops ≡ true
+acceptable_holds s t q hops links lanes a = all_hold s hops (λ k less. let on = a.on_grid k less in (rw links at on.0, rw lanes at on.1))
+
+-- Close, where the links are as many as the layout has.
+module _ (m : Meaning) (t : Tables) (links : m.links ≡ t.lanes.size.links) (n : ℕ) where
+  abbrev S : Setting
+  S = setting m t (length (alike t))
+
+  pub not_open : (e : Refusal) → open_stream (streams_in t) n ≡ Err e → closing S (outline t) n ≡ refuse (no_hop e) (outline t)
+  unfolding close_refusal
+  not_open e is = rw is refl
+
+  module _ (s : OpenStream) (is : open_stream (streams_in t) n ≡ Ok s) (items : ℕ)
+      (count : items ≡ item_count_of (setting_of t.lanes.size 0) (queues_of t.lanes (alike t)) n) where
+    items_are : item_count_of S (outline t) n ≡ items
+    items_are = grid_sum_same_lanes S (setting_of t.lanes.size 0) (one_of n) (outline t).contents links refl ∙ sym count
+
+    pub has_items : 0 < items → closing S (outline t) n ≡ refuse (no_hop ItemsOnGrid) (outline t)
+    unfolding close_refusal
+    has_items some = let no : (items == 0) ≡ false = grind (arith, nat_tests) in rw (is, items_are, no) refl
+
+    pub closed : items ≤ 0 → closing S (outline t) n ≡ record { answer = done; grid = with_stream (outline t) n None }
+    unfolding close_refusal
+    closed none = let yes : (items == 0) ≡ true = grind (arith, nat_tests) in rw (is, items_are, yes) refl

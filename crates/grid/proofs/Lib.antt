@@ -1,0 +1,4 @@
+pub mod Starting
+pub mod StreamTables
+pub mod Lifted
+pub mod Editing

@@ -1,0 +1,3 @@
+pub mod Placed
+pub mod Views
+pub mod Makes

@@ -1,0 +1,14 @@
+// Grids.
+ghost use Rattle.std.specs.Prelude.{◌≡◌};
+
+use crate::tables::Tables;
+use layouts::layout::Layout;
+
+/// A grid: a layout, the open streams, and the queues of its lanes. The items stand in slots that the caller lends at each
+/// call.
+#[derive(Drop)]
+pub struct Grid<L: Layout> {
+    pub(crate) layout: L,
+    pub(crate) tables: Tables,
+    ghost fits: { (L.meaning layout).links ≡ tables.lanes.size.links },
+}

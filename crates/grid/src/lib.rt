@@ -1,0 +1,10 @@
+// The grid that runs: tables of streams and lanes on any layout, and the calls on them.
+#![tactic(auto)]
+
+mod calls;
+pub mod grid;
+mod items;
+mod opens;
+pub mod step;
+mod streams;
+pub mod tables;

@@ -1,5 +1,5 @@
 -- Opening and closing, on the outline.
-use Rattle.std.proofs.Common.{◌≡◌, ℕ, suc, ◌<◌, ◌≤◌, true, false, ◌==◌, List, [], ◌∷◌, length, get_or, Some, None, Ok, Err, Option, sym, refl, ap, ◌∙◌, arith}
+use Rattle.std.proofs.Common.{◌≡◌, ℕ, suc, ◌<◌, ◌≤◌, true, false, ◌==◌, List, [], ◌∷◌, length, Some, None, Ok, Err, Option, sym, refl, ap, ◌∙◌, arith}
 use Rattle.std.proofs.lemmas.Bool.{and_from, lt-ltb}
 use Rattle.std.proofs.lemmas.Bool.Decides.{nat_tests}
 use Rattle.std.specs.List.{list_all}
@@ -13,7 +13,7 @@ use Rattle.routes.specs.Routes.{OpenStream, hop_at}
 use Rattle.routes.specs.Checks.{Terms, no_hop}
 use Rattle.routes.specs.Acceptable.{Acceptable}
 use Rattle.model.specs.Grid.{Setting, Grid, assign, with_stream}
-use Rattle.model.specs.Calls.{Call, opens, closes, Answer, declined, done, Outcome, refuse, vacancy, open_refusal, opening, open_stream, close_refusal, closing, outcome}
+use Rattle.model.specs.Calls.{Call, declined, done, refuse, vacancy, open_refusal, opening, open_stream, close_refusal, closing, outcome}
 use Rattle.model.specs.Sums.{one_of, item_count_of}
 use Rattle.model.specs.Outlines.{grid_sum_same_lanes}
 use Rattle.model.specs.Slots.{arrival}
@@ -21,8 +21,8 @@ use Rattle.lanes.specs.declared.size.Size.{Size}
 use Rattle.lanes.specs.Sizes.{holds, setting_of}
 use Rattle.lanes.specs.Queues.{queues_of}
 use Rattle.grid.specs.declared.tables.Tables.{Tables}
-use Rattle.grid.specs.Views.{streams_in, view, alike, outline, setting}
-use Rattle.grid.specs.Makes.{Makes, Same, Edits}
+use Rattle.grid.specs.Views.{streams_in, alike, outline, setting}
+use Rattle.grid.specs.Makes.{Edits}
 use Rattle.grid.proofs.Lifted.{refused}
 
 -- a call that is declined leaves everything as it was

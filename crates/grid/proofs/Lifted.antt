@@ -19,7 +19,7 @@ use Rattle.lanes.specs.Queues.{queues_of}
 use Rattle.lanes.specs.Calls.{pushing, popping, moving, moving_arrival, Handles}
 use Rattle.grid.specs.declared.tables.Tables.{Tables}
 use Rattle.grid.specs.Views.{streams_in, with_streams, view, setting}
-use Rattle.grid.specs.Makes.{Makes, Same, Starts}
+use Rattle.grid.specs.Makes.{Makes, Starts}
 
 -- what a call leaves, with open streams
 abbrev lift : {T : Type 0} → (ℕ → Option OpenStream) → Outcome T → Outcome T

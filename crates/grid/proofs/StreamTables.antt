@@ -1,5 +1,5 @@
 -- The law of the table of streams.
-use Rattle.std.proofs.Common.{◌≡◌, ℕ, ◌<◌, true, false, List, length, set, None, Option, ◌==◌, ap, ⊎_elim, get_or-set_same, get_or-set_other}
+use Rattle.std.proofs.Common.{◌≡◌, ℕ, zero, suc, ◌<◌, true, false, List, length, get_or, set, replicate, None, Option, ◌==◌, refl, ap, ⊎_elim, get_or-set_same, get_or-set_other}
 use mathlib.Core.Path.{fun_ext}
 use Rattle.std.proofs.lemmas.Bool.{cases_Bool, eqb-true, eqb-false}
 use Rattle.std.specs.Option.{option_map}
@@ -19,3 +19,9 @@ module _ (table : List (Option Stream)) (n : ℕ) (entry : Option Stream) (there
   -- another entry in the table is another entry among the streams
   pub streams_of-set : streams_of (set table n entry) ≡ assign (streams_of table) n (option_map stream_of entry)
   streams_of-set = fun_ext at_each
+
+-- a table of closed entries
+pub none_open : (count n : ℕ) → get_or {A = Option Stream} (replicate count None) n None ≡ None
+none_open zero n = refl
+none_open (suc count) zero = refl
+none_open (suc count) (suc n) = none_open count n

@@ -1,3 +1,5 @@
 pub mod Placed
 pub mod Views
 pub mod Makes
+pub mod Blank
+pub mod Routes

@@ -46,11 +46,7 @@ impl Tables {
     }
 
     // Takes the front off a lane, and out of the grid or on to the next hop of its route.
-    pub(crate) fn step<T: Copy>(
-        &mut self,
-        slots: &mut [T],
-        hop: Hop,
-    ) -> Result<Step<T>, Refusal>
+    pub(crate) fn step<T: Copy>(&mut self, slots: &mut [T], hop: Hop) -> Result<Step<T>, Refusal>
         ensures { (m : Meaning) → m.links ≡ self.old.lanes.size.links → Makes m self.old slots.old (steps hop.link hop.lane) (answer_of step_answer result) self.new slots.new }
     {
         let (stream, _) = self.lanes.front(slots, hop)?;

@@ -4,7 +4,9 @@
 mod calls;
 pub mod grid;
 mod items;
+pub mod make;
 mod opens;
+mod questions;
 pub mod step;
 mod streams;
 pub mod tables;

@@ -6,7 +6,8 @@ use Rattle.grid.proofs.grid.Grid.accepted.Goals as goal
 pub returns : goal.returns
 returns g c =
     let grid = c.args.self.now in
-    let lanes = c.lanes.ensures ∙ ap (λ s. s.lanes) c.size.ensures in
-    (rw lanes at (passed_by _ c.in_ok-judge.ensures.answer),
-    c.in_ok-new.ensures.1,
-    acceptable_holds grid.tables.lanes.size _ c.args.request c.args.hops.now grid.fits lanes c.in_ok-judge.ensures.meets)
+    let lanes = c.lanes.ensures ∙ ap (λ s. s.lanes) c.size.ensures in (
+      rw lanes at (passed_by _ c.in_ok-judge.ensures.answer),
+      c.in_ok-new.ensures.1,
+      acceptable_holds grid.tables.lanes.size _ c.args.request c.args.hops.now grid.fits lanes c.in_ok-judge.ensures.meets,
+    )

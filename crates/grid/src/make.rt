@@ -1,0 +1,75 @@
+// Making a blank grid.
+ghost use Rattle.std.specs.Prelude.{◌≡◌, ℕ, None, MatchResult};
+ghost use Rattle.grid.specs.declared.make.MakeError.TheVariants.{Refused, OutOfMemory};
+ghost use Rattle.grid.specs.Views.{streams_in};
+ghost use Rattle.grid.specs.Blank.{making_refusal, BlankTables, NotMade};
+
+use crate::grid::Grid;
+use crate::tables::Tables;
+use lanes::size::Size;
+use lanes::tables::Lanes;
+use layouts::layout::Layout;
+use refusals::refusal::Refusal;
+use std::alloc::{AllocError, Global};
+
+/// Why no grid is made.
+#[derive(Clone, Copy, PartialEq, Eq, Debug)]
+pub enum MakeError {
+    /// The grid is refused.
+    Refused(Refusal),
+    /// There is no memory for its tables.
+    OutOfMemory,
+}
+
+impl From<Refusal> for MakeError {
+    ghost from_gives = { λ refusal error. error ≡ Refused refusal };
+
+    fn from(refusal: Refusal) -> MakeError {
+        MakeError::Refused(refusal)
+    }
+}
+
+impl From<AllocError> for MakeError {
+    ghost from_gives = { λ _ error. error ≡ OutOfMemory };
+
+    fn from(_refused: AllocError) -> MakeError {
+        MakeError::OutOfMemory
+    }
+}
+
+// The tables of these lanes, with no stream.
+fn no_stream(lanes: Lanes, capacity: u16) -> Tables
+    ensures { (result.lanes ≡ lanes) × (result.capacity ≡ capacity) × ((n : ℕ) → streams_in result n ≡ None) }
+{
+    Tables {
+        lanes,
+        streams: [None; 64],
+        capacity,
+    }
+}
+
+impl<L: Layout + Drop> Grid<L> {
+    /// A grid on a layout, with no stream and no item: so many lanes for each link, so many items to a lane, and one capacity
+    /// for every link. No later call allocates.
+    ///
+    /// Refuses lanes outside 1 to 4 and a depth outside 1 to 8 by `GridSize`, and a capacity of 0 by `ZeroAmount`.
+    pub fn blank(
+        heap: Global,
+        layout: L,
+        lanes: u16,
+        depth: u16,
+        capacity: u16,
+    ) -> Result<Grid<L>, MakeError>
+        ensures { MatchResult result (λ g. (making_refusal lanes depth capacity ≡ None) × (g.layout ≡ layout) × BlankTables (L.meaning layout).links lanes depth capacity g.tables) (λ e. NotMade lanes depth capacity e) }
+    {
+        let size = Size::new(layout.links(), lanes, depth)?;
+        if capacity == 0 {
+            return Err(Refusal::ZeroAmount.into());
+        }
+        let lanes = Lanes::blank(heap, size)?;
+        Ok(Grid {
+            layout,
+            tables: no_stream(lanes, capacity),
+        })
+    }
+}

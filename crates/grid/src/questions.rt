@@ -1,0 +1,73 @@
+// The questions, which change nothing.
+ghost use Rattle.std.specs.Prelude.{◌≡◌};
+ghost use Rattle.model.specs.Sums.{item_count};
+ghost use Rattle.model.specs.Questions.{fields_of, hops_of_stream, load_told, count_told};
+ghost use Rattle.grid.specs.Views.{streams_in, outline, setting};
+ghost use Rattle.grid.specs.Routes.{TellsRoute};
+
+use crate::grid::Grid;
+use lanes::size::Size;
+use layouts::layout::Layout;
+use refusals::refusal::Refusal;
+use routes::hop::Hop;
+use routes::load::link_load;
+use routes::stream::Request;
+
+impl<L: Layout> Grid<L> {
+    /// The layout.
+    pub fn layout(&self) -> &L
+        ensures { result.now ≡ self.now.layout }
+    {
+        &self.layout
+    }
+
+    /// How many links, lanes and places to a lane there are.
+    pub fn size(&self) -> Size
+        ensures { result ≡ self.now.tables.lanes.size }
+    {
+        self.tables.lanes.size()
+    }
+
+    /// What an open stream asked for. Refuses a number above 63 by `NoSuchStream`, and a stream that is not open by
+    /// `NotOpen`.
+    pub fn stream(&self, stream: u16) -> Result<Request, Refusal>
+        ensures { result ≡ fields_of (streams_in self.now.tables) stream }
+    {
+        Ok(self.tables.stream(stream)?.request)
+    }
+
+    /// The route of an open stream: its hops are written into the table, from the front, and the rest of the table is not
+    /// touched; answers their count. Refuses as `stream` does.
+    pub fn route(&self, stream: u16, table: &mut [Hop; 24]) -> Result<usize, Refusal>
+        ensures { TellsRoute (hops_of_stream (streams_in self.now.tables) stream) table.old result table.new }
+    {
+        let route = self.tables.stream(stream)?.route;
+        let hops = route.hops();
+        table[..hops.len()].copy_from_slice(hops);
+        Ok(hops.len())
+    }
+
+    /// The load of a link. Refuses a link that is not there by `OffGrid`.
+    pub fn link_load(&self, link: u16) -> Result<u32, Refusal>
+        ensures { result ≡ load_told (L.meaning self.now.layout).links (streams_in self.now.tables) link }
+    {
+        if link >= self.layout.links() {
+            return Err(Refusal::OffGrid);
+        }
+        Ok(link_load(&self.tables.streams, link))
+    }
+
+    /// How many items a lane contains. Refuses a link or a lane that is not there by `OffGrid`.
+    pub fn count(&self, hop: Hop) -> Result<u16, Refusal>
+        ensures { result ≡ count_told (setting (L.meaning self.now.layout) self.now.tables 0) (outline self.now.tables) hop }
+    {
+        self.tables.lanes.count(hop)
+    }
+
+    /// How many items are on the grid.
+    pub fn items(&self) -> usize
+        ensures { result ≡ item_count (setting (L.meaning self.now.layout) self.now.tables 0) (outline self.now.tables) }
+    {
+        self.tables.lanes.items()
+    }
+}

@@ -4,7 +4,7 @@ use Rattle.std.specs.Option.{option_map}
 use Rattle.routes.specs.declared.hop.Hop.{Hop}
 use Rattle.model.specs.Grid.{Setting, Queue, Grid, route_of}
 use Rattle.model.specs.Calls.{Call, opens, closes, sends, steps, next_of, outcome}
-use Rattle.model.specs.Runs.{is_declined}
+use Rattle.model.specs.Runs.{History, start, ◌▸◌, after, is_declined}
 
 -- a lane has `depth` slots in a row; lane follows on lane, and link on link
 abbrev pub slot_of : Setting → Hop → ℕ → ℕ
@@ -35,3 +35,8 @@ arrival g (steps link lane) = front_arrival (next_of g link) (g.contents link la
 -- what a call leaves in the slots
 abbrev pub slots_after : {T : Type 0} → Setting → Grid T → Call T → List T → List T
 slots_after S g c slots = cond (is_declined (outcome S g c).answer) slots (stored S g (arrival g c) slots)
+
+-- what a list of calls leaves in the slots
+abbrev pub slots_left : {T : Type 0} → Setting → History T → List T → List T
+slots_left S start slots = slots
+slots_left S (past ▸ c) slots = slots_after S (after S past) c (slots_left S past slots)

@@ -1,0 +1,42 @@
+use Rattle.std.proofs.Common.{Some, None, vec_items}
+use Rattle.std.proofs.lemmas.Result.{err_from_is_err_and}
+use Rattle.routes.specs.Checks.{no_hop}
+use Rattle.runs.proofs.Edited.{opened, closed}
+use Rattle.runs.proofs.Showing.{shown_sent, shown_stepped}
+use Rattle.runs.proofs.make.make.Goals as goal
+
+pub returns-in_ok-open-in-Open-clause-made : goal.returns-in_ok-open-in-Open-clause-made
+returns-in_ok-open-in-Open-clause-made g c =
+    rw c.in-Open.is
+    (opened _ c.args.grid.now.tables c.open.new.self.tables c.args.slots.now c.in-Open.stream None c.in-Open.request (vec_items c.in-Open.hops) (rw c.as_slice.ensures.value at c.in_ok-open-in-Open.ensures.made))
+
+pub returns-in_err-open-in-Open-clause-made : goal.returns-in_err-open-in-Open-clause-made
+returns-in_err-open-in-Open-clause-made g c =
+    let e = err_from_is_err_and c.from_residual.result c.from_residual.ensures.1 in
+    rw (c.in-Open.is, e.1, e.2)
+    (opened _ c.args.grid.now.tables c.open.new.self.tables c.args.slots.now c.in-Open.stream (Some c.in_err-open-in-Open.field-0.0) c.in-Open.request (vec_items c.in-Open.hops)
+    (rw c.as_slice.ensures.value at c.in_err-open-in-Open.ensures.made))
+
+pub returns-in_ok-close-in-Close-clause-made : goal.returns-in_ok-close-in-Close-clause-made
+returns-in_ok-close-in-Close-clause-made g c =
+    rw c.in-Close.is
+    (closed _ c.args.grid.now.tables c.close.new.self.tables c.args.slots.now c.in-Close.stream None c.requires c.in_ok-close-in-Close.ensures.made)
+
+pub returns-in_err-close-in-Close-clause-made : goal.returns-in_err-close-in-Close-clause-made
+returns-in_err-close-in-Close-clause-made g c =
+    let e = err_from_is_err_and c.from_residual-in_err-close-in-Close.result c.from_residual-in_err-close-in-Close.ensures.1 in
+    rw (c.in-Close.is, e.1, e.2)
+    (closed _ c.args.grid.now.tables c.close.new.self.tables c.args.slots.now c.in-Close.stream (Some (no_hop c.in_err-close-in-Close.field-0.0)) c.requires
+    c.in_err-close-in-Close.ensures.made)
+
+pub returns-in_ok-send-in-Send-clause-shown : goal.returns-in_ok-send-in-Send-clause-shown
+returns-in_ok-send-in-Send-clause-shown g c =
+    let grid = c.args.grid.now in
+    shown_sent (g.L.Layout.meaning grid.layout) grid.tables c.send.new.self.tables grid.fits c.args.slots.now c.send.new.slots c.in-Send.stream c.in-Send.item
+    c.in_ok-send-in-Send.ensures.made
+
+pub returns-in_ok-step-in-Step-clause-shown : goal.returns-in_ok-step-in-Step-clause-shown
+returns-in_ok-step-in-Step-clause-shown g c =
+    let grid = c.args.grid.now in
+    shown_stepped (g.L.Layout.meaning grid.layout) grid.tables c.step.new.self.tables grid.fits c.args.slots.now c.step.new.slots c.in-Step.hop.link c.in-Step.hop.lane
+    c.in_ok-step-in-Step.field-0 c.in_ok-step-in-Step.ensures.made

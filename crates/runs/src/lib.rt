@@ -1,0 +1,6 @@
+// Runs: lists of calls on a grid that starts blank.
+#![tactic(auto)]
+
+pub mod call;
+mod make;
+pub mod replay;

@@ -1,0 +1,47 @@
+// Replaying a list of calls.
+ghost use Rattle.std.specs.Prelude.{◌≡◌, vec_items, MatchResult};
+ghost use Rattle.grid.specs.Blank.{NotMade};
+ghost use Rattle.runs.specs.Runs.{Replays};
+
+use crate::call::{Answer, Call, Reply};
+use crate::make::make;
+use grid::grid::Grid;
+use grid::make::MakeError;
+use layouts::layout::Layout;
+use model::law::law_of_every_run;
+use std::alloc::Global;
+
+/// A run: the grid at its end, and the answer to each call.
+#[derive(Drop)]
+pub struct Run<L: Layout, T> {
+    pub grid: Grid<L>,
+    pub answers: Vec<Answer<T>>,
+}
+
+/// Makes calls one after another on a grid that starts blank, with these slots lent, enough or not, and records each answer.
+///
+/// The contract is what this project is for: whatever the calls, everything let in comes out, in order, a step is possible
+/// exactly while something is on the grid, and the count of steps is known ahead.
+///
+/// Refuses what `Grid::blank` refuses, or tells that there is no memory; the slots are then as before.
+pub fn replay<L: Layout + Drop, T: Copy>(
+    heap: Global,
+    layout: L,
+    lanes: u16,
+    depth: u16,
+    capacity: u16,
+    slots: &mut [T],
+    calls: &[Call<T>],
+) -> Result<Run<L, T>, MakeError>
+    ensures { MatchResult result (λ run. (run.grid.layout ≡ layout) × Replays (L.meaning layout) lanes depth capacity slots.old calls.now (vec_items run.answers) run.grid.tables slots.new) (λ e. NotMade lanes depth capacity e × (slots.new ≡ slots.old)) }
+{
+    // computes nothing: it hands the law to the proof
+    law_of_every_run::<T>();
+    let mut grid = Grid::blank(heap, layout, lanes, depth, capacity)?;
+    // a place for each answer ahead of the first call, so that want of memory stops no run halfway
+    let mut answers = vec![in heap; Ok(Reply::Done); calls.len()]?;
+    for k in 0..calls.len() {
+        answers[k] = make(&mut grid, slots, &calls[k]);
+    }
+    Ok(Run { grid, answers })
+}

@@ -1,5 +1,6 @@
 pub mod SameKind
 pub mod WordCuts
 pub mod Decimals
+pub mod Names
 pub mod LineMistakes
 pub mod Dots

@@ -1,16 +1,15 @@
 -- What the words of a line say.
-use Rattle.std.specs.Prelude.{◌≡◌, ℕ, true, cond, List, [], ◌∷◌, Some, None, Ok, Err, vec_items, codes, Option}
+use Rattle.std.specs.Prelude.{◌≡◌, ℕ, true, cond, ◌⊎◌, List, [], ◌∷◌, Some, None, Ok, Err, vec_items, codes, Option}
 use Rattle.std.specs.Str.{bytes_eq}
 use Rattle.layouts.specs.declared.turn_rule.TurnRule.{TurnRule}
-use Rattle.layouts.specs.declared.turn_rule.TurnRule.TheVariants.{Xy, WestFirst, NorthLast, NegativeFirst}
 use Rattle.routes.specs.declared.hop.Hop.{Hop}
 use Rattle.routes.specs.declared.stream.Request.{Request}
+use Rattle.lanes.specs.declared.strip.Strip.{Strip}
 use Rattle.script.specs.declared.command.Command.{Command}
-use Rattle.script.specs.declared.command.Command.TheVariants.{Mesh, Link, Turn, Judge}
-use Rattle.script.specs.declared.mistake.Mistake.TheVariants.{UnknownCommand, MissingWord, ExtraWord, UnknownRule}
-use Rattle.script.specs.Numbers.{decimal_of}
+use Rattle.script.specs.declared.command.Command.TheVariants.{Mesh, Link, Turn, Judge, Grid, Open, Close, Send, Step, Stream, Route, LinkLoad, Count, Items, Drain}
+use Rattle.script.specs.declared.mistake.Mistake.TheVariants.{UnknownCommand}
 use Rattle.script.specs.Reads.{Read, then}
-use Rattle.script.specs.Hops.{hops_in}
+use Rattle.script.specs.Parts.{first_number, first_shape, behind, past, nothing_more, only_number, only_hop, only_strip, request_and_hops}
 
 -- What a command says, with plain lists.
 pub data Instruction : Type 0 where
@@ -18,71 +17,106 @@ pub data Instruction : Type 0 where
   link : ℕ → Instruction
   turn : ℕ → ℕ → Instruction
   judge : Request → List Hop → Instruction
+  grid : TurnRule → ℕ → ℕ → ℕ → ℕ → ℕ → Instruction
+  opens : ℕ → Request → List Hop → Instruction
+  closes : ℕ → Instruction
+  sends : ℕ → Strip → Instruction
+  steps : Hop → Instruction
+  stream : ℕ → Instruction
+  route : ℕ → Instruction
+  link_load : ℕ → Instruction
+  count : Hop → Instruction
+  items : Instruction
+  drains : Instruction
 
 abbrev pub instruction_of : Command → Instruction
 instruction_of (Mesh rule w h) = mesh rule w h
 instruction_of (Link k) = link k
 instruction_of (Turn a b) = turn a b
 instruction_of (Judge request hops) = judge request (vec_items hops)
-
--- the turn rule that a word names
-abbrev pub rule_of : List ℕ → Read TurnRule
-rule_of w =
-    cond (bytes_eq w (codes "xy")) (Ok Xy)
-    (cond (bytes_eq w (codes "west-first")) (Ok WestFirst)
-    (cond (bytes_eq w (codes "north-last")) (Ok NorthLast)
-    (cond (bytes_eq w (codes "negative-first")) (Ok NegativeFirst)
-    (Err UnknownRule))))
-
--- the first word as f reads it, and the words behind it
-abbrev pub first : {A : Type 0} → (List ℕ → Read A) → List (List ℕ) → Read A
-first f [] = Err MissingWord
-first f (w ∷ ws) = f w
-
-abbrev pub behind : List (List ℕ) → List (List ℕ)
-behind [] = []
-behind (w ∷ ws) = ws
-
-abbrev pub first_rule : List (List ℕ) → Read TurnRule
-first_rule ws = first rule_of ws
-
--- a number of 16 bits
-abbrev pub first_number : List (List ℕ) → Read ℕ
-first_number ws = first (decimal_of 65535) ws
-
-abbrev pub nothing_more : List (List ℕ) → Read (Unit {0})
-nothing_more [] = Ok tt
-nothing_more (w ∷ ws) = Err ExtraWord
+instruction_of (Grid rule w h lanes depth capacity) = grid rule w h lanes depth capacity
+instruction_of (Open s request hops) = opens s request (vec_items hops)
+instruction_of (Close s) = closes s
+instruction_of (Send s strip) = sends s strip
+instruction_of (Step hop) = steps hop
+instruction_of (Stream s) = stream s
+instruction_of (Route s) = route s
+instruction_of (LinkLoad k) = link_load k
+instruction_of (Count hop) = count hop
+instruction_of Items = items
+instruction_of Drain = drains
 
 -- mesh RULE WIDTH HEIGHT, without its name
 abbrev pub mesh_instruction : List (List ℕ) → Read Instruction
 mesh_instruction ws =
-    then (first_rule ws) (λ rule. then (first_number (behind ws)) (λ w. then (first_number (behind (behind ws))) (λ h.
-    then (nothing_more (behind (behind (behind ws)))) (λ _. Ok (mesh rule w h)))))
-
--- link K
-abbrev pub link_instruction : List (List ℕ) → Read Instruction
-link_instruction ws = then (first_number ws) (λ k. then (nothing_more (behind ws)) (λ _. Ok (link k)))
+    then (first_shape ws) (λ m. then (nothing_more (past 3 ws)) (λ _. Ok (mesh m.0 m.1 m.2)))
 
 -- turn A B
 abbrev pub turn_instruction : List (List ℕ) → Read Instruction
 turn_instruction ws =
     then (first_number ws) (λ a. then (first_number (behind ws)) (λ b.
-    then (nothing_more (behind (behind ws))) (λ _. Ok (turn a b))))
+    then (nothing_more (past 2 ws)) (λ _. Ok (turn a b))))
 
 -- judge FROM TO DEMAND HOP..
 abbrev pub judge_instruction : List (List ℕ) → Read Instruction
-judge_instruction ws =
-    then (first_number ws) (λ from. then (first_number (behind ws)) (λ to. then (first_number (behind (behind ws))) (λ demand.
-    then (hops_in (behind (behind (behind ws)))) (λ hops. Ok (judge (record { source = from; target = to; demand = demand }) hops)))))
+judge_instruction ws = then (request_and_hops ws) (λ a. Ok (judge a.0 a.1))
 
+-- grid RULE WIDTH HEIGHT LANES DEPTH CAPACITY
+abbrev pub grid_instruction : List (List ℕ) → Read Instruction
+grid_instruction ws =
+    then (first_shape ws) (λ m. then (first_number (past 3 ws)) (λ lanes. then (first_number (past 4 ws)) (λ depth.
+    then (first_number (past 5 ws)) (λ capacity. then (nothing_more (past 6 ws)) (λ _.
+    Ok (grid m.0 m.1 m.2 lanes depth capacity))))))
+
+-- open S FROM TO DEMAND HOP..
+abbrev pub open_instruction : List (List ℕ) → Read Instruction
+open_instruction ws = then (first_number ws) (λ s. then (request_and_hops (behind ws)) (λ a. Ok (opens s a.0 a.1)))
+
+-- send S FRAGMENT BAND ROW
+abbrev pub send_instruction : List (List ℕ) → Read Instruction
+send_instruction ws = then (first_number ws) (λ s. then (only_strip (behind ws)) (λ strip. Ok (sends s strip)))
+
+-- the commands that name a number, as link K
+abbrev pub number_instruction : (ℕ → Instruction) → List (List ℕ) → Read Instruction
+number_instruction f ws = then (only_number ws) (λ n. Ok (f n))
+
+-- those that name a link and a lane, as step LINK LANE
+abbrev pub hop_instruction : (Hop → Instruction) → List (List ℕ) → Read Instruction
+hop_instruction f ws = then (only_hop ws) (λ hop. Ok (f hop))
+
+-- and those that name nothing
+abbrev pub bare_instruction : Instruction → List (List ℕ) → Read Instruction
+bare_instruction i ws = then (nothing_more ws) (λ _. Ok i)
+
+-- the commands that ask about a grid
+abbrev pub question_named : List ℕ → List (List ℕ) → Read Instruction
+question_named name ws =
+    cond (bytes_eq name (codes "stream")) (number_instruction stream ws)
+    (cond (bytes_eq name (codes "route")) (number_instruction route ws)
+    (cond (bytes_eq name (codes "linkload")) (number_instruction link_load ws)
+    (cond (bytes_eq name (codes "count")) (hop_instruction count ws)
+    (cond (bytes_eq name (codes "items")) (bare_instruction items ws)
+    (Err UnknownCommand)))))
+
+-- those that change one, and those that ask about it
+abbrev pub call_named : List ℕ → List (List ℕ) → Read Instruction
+call_named name ws =
+    cond (bytes_eq name (codes "open")) (open_instruction ws)
+    (cond (bytes_eq name (codes "close")) (number_instruction closes ws)
+    (cond (bytes_eq name (codes "send")) (send_instruction ws)
+    (cond (bytes_eq name (codes "step")) (hop_instruction steps ws)
+    (cond (bytes_eq name (codes "drain")) (bare_instruction drains ws)
+    (question_named name ws)))))
+
+-- all commands: these, and those that make a mesh or a grid or ask about a mesh
 abbrev pub named_instruction : List ℕ → List (List ℕ) → Read Instruction
 named_instruction name ws =
     cond (bytes_eq name (codes "mesh")) (mesh_instruction ws)
-    (cond (bytes_eq name (codes "link")) (link_instruction ws)
+    (cond (bytes_eq name (codes "link")) (number_instruction link ws)
     (cond (bytes_eq name (codes "turn")) (turn_instruction ws)
     (cond (bytes_eq name (codes "judge")) (judge_instruction ws)
-    (Err UnknownCommand))))
+    (cond (bytes_eq name (codes "grid")) (grid_instruction ws)
+    (call_named name ws)))))
 
 -- what the words of a line say, nothing where there is none
 abbrev pub command_of : List (List ℕ) → Read (Option Instruction)
@@ -92,4 +126,4 @@ command_of (name ∷ ws) = then (named_instruction name ws) (λ i. Ok (Some i))
 -- memory is needed by the commands that keep a list
 abbrev pub NeedsMemory : List (List ℕ) → Type 0
 NeedsMemory [] = ⊥
-NeedsMemory (name ∷ ws) = bytes_eq name (codes "judge") ≡ true
+NeedsMemory (name ∷ ws) = (bytes_eq name (codes "judge") ≡ true) ⊎ (bytes_eq name (codes "open") ≡ true)

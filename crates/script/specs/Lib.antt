@@ -4,4 +4,5 @@ pub mod Mistakes
 pub mod Numbers
 pub mod Reads
 pub mod Hops
+pub mod Parts
 pub mod Commands

@@ -1,4 +1,5 @@
 // The commands of a script.
+use lanes::strip::Strip;
 use layouts::turn_rule::TurnRule;
 use routes::hop::Hop;
 use routes::stream::Request;
@@ -14,4 +15,33 @@ pub enum Command {
     Turn(u16, u16),
     /// Judge a route of these hops for what a stream asks for.
     Judge(Request, Vec<Hop>),
+    /// Make a blank grid: on a mesh of a rule, a width and a height, with so many lanes to a link, a depth and a capacity.
+    Grid {
+        rule: TurnRule,
+        width: u16,
+        height: u16,
+        lanes: u16,
+        depth: u16,
+        capacity: u16,
+    },
+    /// Open the stream of this number for what it asks for, by a route of these hops.
+    Open(u16, Request, Vec<Hop>),
+    /// Close a stream.
+    Close(u16),
+    /// Send a strip by a stream.
+    Send(u16, Strip),
+    /// Step the lane of this hop.
+    Step(Hop),
+    /// Tell what an open stream asks for.
+    Stream(u16),
+    /// Tell the hops of an open stream.
+    Route(u16),
+    /// Tell the load of a link.
+    LinkLoad(u16),
+    /// Tell how many items the lane of this hop holds.
+    Count(Hop),
+    /// Tell how many items are on the grid.
+    Items,
+    /// Step lanes in turn until none will step.
+    Drain,
 }

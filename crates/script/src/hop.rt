@@ -4,7 +4,7 @@ ghost use Rattle.std.specs.List.{position};
 ghost use Rattle.script.specs.Hops.{from_digits, hop_of};
 
 use crate::mistake::Mistake;
-use crate::number::{decimal, number};
+use crate::number::{number, small_number};
 use routes::hop::Hop;
 
 // Where the first dot stands.
@@ -19,8 +19,7 @@ fn from_digits(link: &[u8], lane: &[u8]) -> Result<Hop, Mistake>
     ensures { result ≡ from_digits link.now lane.now }
 {
     let link = number(link)?;
-    // the cast is proved to lose nothing
-    let lane = decimal(lane, 255)? as u8;
+    let lane = small_number(lane)?;
     Ok(Hop { link, lane })
 }
 

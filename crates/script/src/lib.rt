@@ -7,6 +7,7 @@ mod hop;
 pub mod mistake;
 mod number;
 pub mod parse;
+mod parts;
 #[cfg(test)]
 mod tests;
 mod words;

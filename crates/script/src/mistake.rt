@@ -25,6 +25,8 @@ pub enum Mistake {
     NotAHop,
     /// The command wants a mesh, and none has been made.
     NoMesh,
+    /// The command wants a grid, and none has been made.
+    NoGrid,
     /// There is no memory for what the line says.
     OutOfMemory,
 }
@@ -43,6 +45,7 @@ impl Mistake {
             Mistake::NumberTooLarge => "number too large",
             Mistake::NotAHop => "not a hop",
             Mistake::NoMesh => "no mesh",
+            Mistake::NoGrid => "no grid",
             Mistake::OutOfMemory => "out of memory",
         }
     }

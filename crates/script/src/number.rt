@@ -40,3 +40,11 @@ pub(crate) fn number(word: &[u8]) -> Result<u16, Mistake>
     // the cast is proved to lose nothing
     Ok(decimal(word, 65535)? as u16)
 }
+
+/// The number of 8 bits that a word writes.
+pub(crate) fn small_number(word: &[u8]) -> Result<u8, Mistake>
+    ensures { result ≡ decimal_of 255 word.now }
+{
+    // the cast is proved to lose nothing
+    Ok(decimal(word, 255)? as u8)
+}

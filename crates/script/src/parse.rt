@@ -1,124 +1,122 @@
 // From the words of a line to its command.
-ghost use Rattle.std.specs.Prelude.{◌≡◌, ◌∷◌, Ok, vec_items};
+ghost use Rattle.std.specs.Prelude.{◌≡◌, ◌∷◌};
 ghost use Rattle.std.specs.Option.{option_map};
 ghost use Rattle.script.specs.Words.{words_of};
 ghost use Rattle.script.specs.Reads.{said, Parses, OfTheLine};
-ghost use Rattle.script.specs.Hops.{hops_in};
-ghost use Rattle.script.specs.Commands.{instruction_of, rule_of, first, nothing_more, behind, mesh_instruction, link_instruction, turn_instruction, judge_instruction, named_instruction, command_of, NeedsMemory};
+ghost use Rattle.script.specs.Commands.{instruction_of, mesh_instruction, turn_instruction, grid_instruction, judge_instruction, open_instruction, send_instruction, question_named, call_named, named_instruction, command_of, NeedsMemory};
 
 use crate::command::Command;
-use crate::hop::hop;
 use crate::mistake::Mistake;
-use crate::number::number;
 use crate::words::Words;
-use layouts::turn_rule::TurnRule;
-use routes::hop::Hop;
-use routes::stream::Request;
 use std::alloc::Global;
 
-// The turn rule that a word names. No `TryFrom`: the rule is another crate's type, and these words are the script's.
-fn turn_rule(word: &[u8]) -> Result<TurnRule, Mistake>
-    ensures { result ≡ rule_of word.now }
-{
-    match word {
-        b"xy" => Ok(TurnRule::Xy),
-        b"west-first" => Ok(TurnRule::WestFirst),
-        b"north-last" => Ok(TurnRule::NorthLast),
-        b"negative-first" => Ok(TurnRule::NegativeFirst),
-        _ => Err(Mistake::UnknownRule),
-    }
-}
-
 impl<'a> Words<'a> {
-    // The next word, where one is wanted.
-    fn word(&mut self) -> Result<&'a [u8], Mistake>
-        ensures value { said (λ word. word.now) result ≡ first Ok self.old }
-        ensures after { self.new ≡ behind self.old }
-    {
-        self.next().ok_or(Mistake::MissingWord)
-    }
-
-    // That no word is left.
-    fn end(&mut self) -> Result<(), Mistake>
-        ensures { result ≡ nothing_more self.old }
-    {
-        match self.next() {
-            Some(_) => Err(Mistake::ExtraWord),
-            None => Ok(()),
-        }
-    }
-
     // The words behind `mesh`: a rule, a width and a height.
     fn mesh(&mut self) -> Result<Command, Mistake>
         ensures { said instruction_of result ≡ mesh_instruction self.old }
     {
-        let rule = turn_rule(self.word()?)?;
-        let width = number(self.word()?)?;
-        let height = number(self.word()?)?;
+        let (rule, width, height) = self.shape()?;
         self.end()?;
         Ok(Command::Mesh(rule, width, height))
-    }
-
-    // The word behind `link`: a link.
-    fn link(&mut self) -> Result<Command, Mistake>
-        ensures { said instruction_of result ≡ link_instruction self.old }
-    {
-        let link = number(self.word()?)?;
-        self.end()?;
-        Ok(Command::Link(link))
     }
 
     // The words behind `turn`: two links.
     fn turn(&mut self) -> Result<Command, Mistake>
         ensures { said instruction_of result ≡ turn_instruction self.old }
     {
-        let from = number(self.word()?)?;
-        let to = number(self.word()?)?;
+        let from = self.number()?;
+        let to = self.number()?;
         self.end()?;
         Ok(Command::Turn(from, to))
     }
 
-    // The words that are left as hops.
-    fn hops(&mut self, heap: Global) -> Result<Vec<Hop>, Mistake>
-        ensures { Parses vec_items (Unit {0}) (hops_in self.old) result }
-    {
-        // a loop that pushes, since `try_collect` does not say that it fails where a hop does
-        let mut hops = Vec::new(heap);
-        for word in self.by_ref() {
-            hops.push(hop(word)?)?;
-        }
-        Ok(hops)
-    }
-
-    // The words behind `judge`: a source, a target, a demand and hops.
+    // The words behind `judge`: what a stream asks for, and hops.
     fn judge(&mut self, heap: Global) -> Result<Command, Mistake>
         ensures { Parses instruction_of (Unit {0}) (judge_instruction self.old) result }
     {
-        let source = number(self.word()?)?;
-        let target = number(self.word()?)?;
-        let demand = number(self.word()?)?;
-        let hops = self.hops(heap)?;
-        Ok(Command::Judge(
-            Request {
-                source,
-                target,
-                demand,
-            },
-            hops,
-        ))
+        let (request, hops) = self.request_and_hops(heap)?;
+        Ok(Command::Judge(request, hops))
+    }
+
+    // The words behind `grid`: those of a mesh, the lanes of a link, a depth and a capacity.
+    fn grid(&mut self) -> Result<Command, Mistake>
+        ensures { said instruction_of result ≡ grid_instruction self.old }
+    {
+        let (rule, width, height) = self.shape()?;
+        let lanes = self.number()?;
+        let depth = self.number()?;
+        let capacity = self.number()?;
+        self.end()?;
+        Ok(Command::Grid {
+            rule,
+            width,
+            height,
+            lanes,
+            depth,
+            capacity,
+        })
+    }
+
+    // The words behind `open`: a stream, what it asks for, and hops.
+    fn open(&mut self, heap: Global) -> Result<Command, Mistake>
+        ensures { Parses instruction_of (Unit {0}) (open_instruction self.old) result }
+    {
+        let stream = self.number()?;
+        let (request, hops) = self.request_and_hops(heap)?;
+        Ok(Command::Open(stream, request, hops))
+    }
+
+    // The words behind `send`: a stream and a strip.
+    fn send(&mut self) -> Result<Command, Mistake>
+        ensures { said instruction_of result ≡ send_instruction self.old }
+    {
+        let stream = self.number()?;
+        Ok(Command::Send(stream, self.only_strip()?))
     }
 }
 
-// The command of a name, with the words behind it. A match and not closures: the name is read from input.
+// The names are matched in three groups, since the proof of one match over all of them does not close. Matches and not
+// closures: the names are read from input.
+
+// A command that asks about a grid.
+fn question(name: &[u8], words: &mut Words<'_>) -> Result<Command, Mistake>
+    ensures { said instruction_of result ≡ question_named name.now words.old }
+{
+    match name {
+        b"stream" => words.only_number().map(Command::Stream),
+        b"route" => words.only_number().map(Command::Route),
+        b"linkload" => words.only_number().map(Command::LinkLoad),
+        b"count" => words.only_hop().map(Command::Count),
+        b"items" => words.end().map(|()| Command::Items),
+        _ => Err(Mistake::UnknownCommand),
+    }
+}
+
+// A command that changes a grid or asks about it.
+fn call(heap: Global, name: &[u8], words: &mut Words<'_>) -> Result<Command, Mistake>
+    ensures { Parses instruction_of (NeedsMemory (name.now ∷ words.old)) (call_named name.now words.old) result }
+{
+    match name {
+        b"open" => words.open(heap),
+        b"close" => words.only_number().map(Command::Close),
+        b"send" => words.send(),
+        b"step" => words.only_hop().map(Command::Step),
+        b"drain" => words.end().map(|()| Command::Drain),
+        _ => question(name, words),
+    }
+}
+
+// The command of a name, with the words behind it.
 fn named(heap: Global, name: &[u8], words: &mut Words<'_>) -> Result<Command, Mistake>
     ensures { Parses instruction_of (NeedsMemory (name.now ∷ words.old)) (named_instruction name.now words.old) result }
 {
     match name {
         b"mesh" => words.mesh(),
-        b"link" => words.link(),
+        b"link" => words.only_number().map(Command::Link),
         b"turn" => words.turn(),
         b"judge" => words.judge(heap),
-        _ => Err(Mistake::UnknownCommand),
+        b"grid" => words.grid(),
+        _ => call(heap, name, words),
     }
 }
 

@@ -2,6 +2,7 @@
 use crate::command::Command;
 use crate::mistake::Mistake;
 use crate::parse::parse;
+use lanes::strip::Strip;
 use layouts::turn_rule::TurnRule;
 use routes::hop::Hop;
 use routes::stream::Request;
@@ -45,6 +46,59 @@ fn commands(rt: HostRuntime) -> Result<(), Fail> {
 }
 
 #[test]
+fn grid_commands(rt: HostRuntime) -> Result<(), Fail> {
+    let heap = rt.alloc();
+    let request = Request {
+        source: 0,
+        target: 8,
+        demand: 10,
+    };
+    let hop = Hop {
+        link: 12,
+        lane: 255,
+    };
+    let strip = Strip {
+        fragment: 4294967295,
+        band: 255,
+        row: 65535,
+    };
+    let lines: [(&[u8], Command); 12] = [
+        (
+            b"grid west-first 3 4 2 8 100",
+            Command::Grid {
+                rule: TurnRule::WestFirst,
+                width: 3,
+                height: 4,
+                lanes: 2,
+                depth: 8,
+                capacity: 100,
+            },
+        ),
+        (
+            b"open 63 0 8 10",
+            Command::Open(63, request, Vec::new(heap)),
+        ),
+        (
+            b"open 63 0 8 10 12.255",
+            Command::Open(63, request, vec![in heap; hop]?),
+        ),
+        (b"close 63", Command::Close(63)),
+        (b"send 5 4294967295 255 65535", Command::Send(5, strip)),
+        (b"step 12 255", Command::Step(hop)),
+        (b"stream 5", Command::Stream(5)),
+        (b"route 5", Command::Route(5)),
+        (b"linkload 12", Command::LinkLoad(12)),
+        (b"count 12 255", Command::Count(hop)),
+        (b"items", Command::Items),
+        (b"drain # to the end", Command::Drain),
+    ];
+    for (line, command) in lines {
+        assert_eq!(rt; parse(heap, line), Ok(Some(command)));
+    }
+    Ok(())
+}
+
+#[test]
 fn mistakes(rt: HostRuntime) {
     let lines: [(&[u8], Mistake); 18] = [
         (b"walk", Mistake::UnknownCommand),
@@ -65,6 +119,35 @@ fn mistakes(rt: HostRuntime) {
         (b"judge 0 8 10 12.0.0", Mistake::NotANumber),
         (b"judge 0 8 10 65536.x", Mistake::NumberTooLarge),
         (b"judge 0 8 10 12.256", Mistake::NumberTooLarge),
+    ];
+    for (line, mistake) in lines {
+        assert_eq!(rt; parse(rt.alloc(), line), Err(mistake));
+    }
+}
+
+#[test]
+fn grid_mistakes(rt: HostRuntime) {
+    let lines: [(&[u8], Mistake); 20] = [
+        (b"grid xy 3 3 2 8", Mistake::MissingWord),
+        (b"grid xy 3 3 2 8 100 1", Mistake::ExtraWord),
+        (b"grid zigzag three", Mistake::UnknownRule),
+        (b"open 5 0 8", Mistake::MissingWord),
+        (b"open 65536 0 8 10", Mistake::NumberTooLarge),
+        (b"open 5 0 8 10 12 0", Mistake::NotAHop),
+        (b"close", Mistake::MissingWord),
+        (b"close 5 6", Mistake::ExtraWord),
+        (b"send 5 1 2", Mistake::MissingWord),
+        (b"send 5 1 2 3 4", Mistake::ExtraWord),
+        (b"send 5 4294967296 2 3", Mistake::NumberTooLarge),
+        (b"send 5 1 256 3", Mistake::NumberTooLarge),
+        (b"step 12", Mistake::MissingWord),
+        (b"step 12 256 x", Mistake::NumberTooLarge),
+        (b"step 12.0", Mistake::NotANumber),
+        (b"count 12 3 0", Mistake::ExtraWord),
+        (b"linkload", Mistake::MissingWord),
+        (b"items 1", Mistake::ExtraWord),
+        (b"drain 1", Mistake::ExtraWord),
+        (b"drained", Mistake::UnknownCommand),
     ];
     for (line, mistake) in lines {
         assert_eq!(rt; parse(rt.alloc(), line), Err(mistake));

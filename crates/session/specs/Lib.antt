@@ -1,2 +1,4 @@
 pub mod Texts
+pub mod Failures
+pub mod Hands
 pub mod Sessions

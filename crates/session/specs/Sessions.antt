@@ -1,40 +1,54 @@
 -- What a session answers, and what it has at hand afterwards.
-use Rattle.std.specs.Prelude.{◌≡◌, ℕ, ◌⊎◌, List, Some, None, Ok, Err, Option, Result}
-use Rattle.std.specs.Option.{option_map}
+use Rattle.std.specs.Prelude.{◌≡◌, ℕ, ◌⊎◌, List, ◌++◌, length, drop, replicate, Some, None, Ok, Err, Option, Result}
+use Rattle.refusals.specs.declared.refusal.Refusal.{Refusal}
 use Rattle.refusals.specs.declared.refusal.Refusal.TheVariants.{MeshSize}
 use Rattle.layouts.specs.Layout.{Meaning}
 use Rattle.layouts.specs.Links.{InRange}
-use Rattle.layouts.specs.Mesh.{meaning_of, mesh_meaning}
+use Rattle.layouts.specs.Mesh.{mesh_meaning}
 use Rattle.layouts.specs.declared.turn_rule.TurnRule.{TurnRule}
 use Rattle.routes.specs.Checks.{Terms, no_hop, judgement}
+use Rattle.routes.specs.Routes.{hop_on}
 use Rattle.routes.specs.declared.declined.Declined.{Declined}
-use Rattle.script.specs.declared.mistake.Mistake.TheVariants.{NoMesh, OutOfMemory}
+use Rattle.routes.specs.declared.hop.Hop.{Hop}
+use Rattle.routes.specs.declared.stream.Request.{Request}
+use Rattle.model.specs.Sums.{item_count}
+use Rattle.model.specs.Calls.{opens, closes, sends, steps, answer_of, done}
+use Rattle.model.specs.Questions.{fields_of, hops_of_stream, load_told, count_told}
+use Rattle.lanes.specs.declared.strip.Strip.{Strip}
+use Rattle.lanes.specs.Sizes.{slot_count}
+use Rattle.grid.specs.declared.step.Step.{Step}
+use Rattle.grid.specs.declared.step.Step.TheVariants as step
+use Rattle.grid.specs.Views.{streams_in, outline, setting}
+use Rattle.grid.specs.Makes.{step_answer, hop_answer, Makes, Edits}
+use Rattle.grid.specs.declared.make.MakeError.{MakeError}
+use Rattle.grid.specs.Blank.{making_refusal, BlankTables, NotMade}
+use Rattle.script.specs.declared.mistake.Mistake.TheVariants.{NoMesh, NoGrid, OutOfMemory}
 use Rattle.script.specs.Words.{words_of}
 use Rattle.script.specs.Reads.{Read}
-use Rattle.script.specs.Commands.{Instruction, mesh, link, turn, judge, command_of, NeedsMemory}
+use Rattle.script.specs.Commands as command
+use Rattle.script.specs.Commands.{Instruction, command_of, NeedsMemory}
 use Rattle.session.specs.declared.answer.Answer.{Answer}
-use Rattle.session.specs.declared.answer.Answer.TheVariants.{Made, Ends, Turn, Accepted}
+use Rattle.session.specs.declared.answer.Answer.TheVariants.{Made, Ends, Turn, Accepted, Moved, Out, Fields, Route, Load, Count, Drain}
 use Rattle.session.specs.declared.failure.Failure.{Failure}
 use Rattle.session.specs.declared.failure.Failure.TheVariants as failure
 use Rattle.session.specs.declared.failure.LineFailure.{LineFailure}
-use Rattle.session.specs.declared.session.Session.{Session}
-
--- what is at hand: the meaning of the mesh made last
-abbrev pub Hand : Type 0
-Hand = Option Meaning
-
-abbrev pub mesh_of : Session → Hand
-mesh_of s = option_map meaning_of s.mesh
+use Rattle.session.specs.Failures.{making_failure}
+use Rattle.session.specs.Hands.{GridHand, Hand}
 
 -- the response to a command: its answer, or why it has none
 abbrev pub Response : Type 0
 Response = Result Answer Failure
 
+abbrev pub refused : Refusal → Response
+refused refusal = Err (failure.Declined (no_hop refusal))
+
+-- ---- meshes
+
 -- a mesh is made where its size is in range; else the refusal leaves what is at hand
-abbrev pub Makes : Hand → TurnRule → ℕ → ℕ → Response → Hand → Type 0
-Makes before rule w h r after =
-    (InRange w h × (r ≡ Ok (Made (mesh_meaning rule w h).tiles (mesh_meaning rule w h).links)) × (after ≡ Some (mesh_meaning rule w h)))
-    ⊎ ((InRange w h → ⊥) × (r ≡ Err (failure.Declined (no_hop MeshSize))) × (after ≡ before))
+abbrev pub MakesMesh : Hand → TurnRule → ℕ → ℕ → Response → Hand → Type 0
+MakesMesh before rule w h r after =
+    (InRange w h × (r ≡ Ok (Made (mesh_meaning rule w h).tiles (mesh_meaning rule w h).links)) × (after ≡ record { mesh = Some (mesh_meaning rule w h); grid = before.grid }))
+    ⊎ ((InRange w h → ⊥) × (r ≡ refused MeshSize) × (after ≡ before))
 
 -- What a route is judged by on the mesh at hand: 4 lanes and a capacity of 65535, the most that a grid has, and no link
 -- bears a load.
@@ -46,14 +60,115 @@ abbrev pub judged : Option Declined → Response
 judged None = Ok Accepted
 judged (Some d) = Err (failure.Declined d)
 
+-- a question about the mesh at hand
+abbrev pub by_mesh : (Meaning → Response) → Option Meaning → Response
+by_mesh f None = Err (failure.Mistake NoMesh)
+by_mesh f (Some m) = f m
+
+-- ---- grids
+
+-- A blank grid on a mesh, with a slot for each item that its lanes can contain. What the slots hold is left open.
+pub record NewGrid (m : Meaning) (lanes depth capacity : ℕ) (g : GridHand) : Type 0 where
+  pub allowed : making_refusal lanes depth capacity ≡ None
+  pub layout_is : g.layout ≡ m
+  pub blank : BlankTables m.links lanes depth capacity g.tables
+  pub enough : length g.slots ≡ slot_count g.tables.lanes.size
+
+-- A grid is made on a mesh, and both are at hand; or its mesh is refused, or the grid, or there is no memory, and all is as
+-- before. Memory has to hold the tables and the slots, so also a grid that nothing declines may find none.
+abbrev pub MakesGrid : Hand → TurnRule → ℕ → ℕ → ℕ → ℕ → ℕ → Response → Hand → Type 0
+MakesGrid before rule w h lanes depth capacity r after =
+    (InRange w h × ((g : GridHand) × NewGrid (mesh_meaning rule w h) lanes depth capacity g
+    × (r ≡ Ok Accepted) × (after ≡ record { mesh = Some (mesh_meaning rule w h); grid = Some g })))
+    ⊎ ((InRange w h × ((e : MakeError) × NotMade lanes depth capacity e × (r ≡ Err (making_failure e)) × (after ≡ before)))
+    ⊎ ((InRange w h → ⊥) × (r ≡ refused MeshSize) × (after ≡ before)))
+
+-- a question about the grid at hand
+abbrev pub by_grid : (GridHand → Response) → Option GridHand → Response
+by_grid f None = Err (failure.Mistake NoGrid)
+by_grid f (Some g) = f g
+
+-- a call on the grid at hand, by what it answers and leaves of the grid
+abbrev pub OnGrid : (GridHand → Response → GridHand → Type 0) → Option Meaning → Option GridHand → Response → Hand → Type 0
+OnGrid Calls mesh None r after = (r ≡ Err (failure.Mistake NoGrid)) × (after ≡ record { mesh = mesh; grid = None })
+OnGrid Calls mesh (Some g) r after = (g' : GridHand) × Calls g r g' × (after ≡ record { mesh = mesh; grid = Some g' })
+
+-- what a value answers, or why there is none
+abbrev pub told : {A : Type 0} → (A → Answer) → Result A Refusal → Response
+told f (Ok a) = Ok (f a)
+told f (Err refusal) = refused refusal
+
+abbrev pub ended : Result (Unit {0}) Declined → Response
+ended (Ok a) = Ok Accepted
+ended (Err d) = Err (failure.Declined d)
+
+abbrev pub stepped : Step Strip → Answer
+stepped (step.Moved n) = Moved n
+stepped (step.Out n x) = Out n x
+
+-- A call that is lent no slots leaves them.
+abbrev pub Opens : ℕ → Request → List Hop → GridHand → Response → GridHand → Type 0
+Opens n q hops g r g' =
+    (a : Result (Unit {0}) Declined) × Edits g.layout g.tables (opens n q hops) (hop_answer a) g'.tables
+    × (g'.layout ≡ g.layout) × (g'.slots ≡ g.slots) × (r ≡ ended a)
+
+abbrev pub Closes : ℕ → GridHand → Response → GridHand → Type 0
+Closes n g r g' =
+    (a : Result (Unit {0}) Refusal) × Edits g.layout g.tables (closes n) (answer_of (λ _. done) a) g'.tables
+    × (g'.layout ≡ g.layout) × (g'.slots ≡ g.slots) × (r ≡ told (λ _. Accepted) a)
+
+abbrev pub Sends : ℕ → Strip → GridHand → Response → GridHand → Type 0
+Sends n x g r g' =
+    (a : Result (Unit {0}) Refusal) × Makes g.layout g.tables g.slots (sends n x) (answer_of (λ _. done) a) g'.tables g'.slots
+    × (g'.layout ≡ g.layout) × (r ≡ told (λ _. Accepted) a)
+
+abbrev pub Steps : Hop → GridHand → Response → GridHand → Type 0
+Steps h g r g' =
+    (a : Result (Step Strip) Refusal) × Makes g.layout g.tables g.slots (steps h.link h.lane) (answer_of step_answer a) g'.tables g'.slots
+    × (g'.layout ≡ g.layout) × (r ≡ told stepped a)
+
+-- a route in a table of 24 hops, which are 0.0 behind its own
+abbrev pub routed : List Hop → Answer
+routed hops = Route (hops ++ drop (length hops) (replicate 24 (hop_on 0 0))) (length hops)
+
+-- what a question about a grid is answered
+abbrev pub fields : ℕ → GridHand → Response
+fields n g = told Fields (fields_of (streams_in g.tables) n)
+
+abbrev pub route : ℕ → GridHand → Response
+route n g = told routed (hops_of_stream (streams_in g.tables) n)
+
+abbrev pub link_load : ℕ → GridHand → Response
+link_load k g = told Load (load_told g.layout.links (streams_in g.tables) k)
+
+abbrev pub count : Hop → GridHand → Response
+count h g = told Count (count_told (setting g.layout g.tables 0) (outline g.tables) h)
+
+abbrev pub items : GridHand → Response
+items g = Ok (Count (item_count (setting g.layout g.tables 0) (outline g.tables)))
+
+-- the lanes that are to be stepped in turn
+abbrev pub lanes : GridHand → Response
+lanes g = Ok (Drain g.tables.lanes.size.links g.tables.lanes.size.lanes)
+
+-- ---- commands and lines
+
 abbrev pub Answers : Hand → Instruction → Response → Hand → Type 0
-Answers before (mesh rule w h) r after = Makes before rule w h r after
-Answers None (link k) r after = (r ≡ Err (failure.Mistake NoMesh)) × (after ≡ None)
-Answers (Some m) (link k) r after = (r ≡ Ok (Ends (m.start k) (m.end k))) × (after ≡ Some m)
-Answers None (turn a b) r after = (r ≡ Err (failure.Mistake NoMesh)) × (after ≡ None)
-Answers (Some m) (turn a b) r after = (r ≡ Ok (Turn (m.turn a b))) × (after ≡ Some m)
-Answers None (judge q hops) r after = (r ≡ Err (failure.Mistake NoMesh)) × (after ≡ None)
-Answers (Some m) (judge q hops) r after = (r ≡ judged (judgement (unloaded m) q hops)) × (after ≡ Some m)
+Answers before (command.mesh rule w h) r after = MakesMesh before rule w h r after
+Answers before (command.link k) r after = (r ≡ by_mesh (λ m. Ok (Ends (m.start k) (m.end k))) before.mesh) × (after ≡ before)
+Answers before (command.turn a b) r after = (r ≡ by_mesh (λ m. Ok (Turn (m.turn a b))) before.mesh) × (after ≡ before)
+Answers before (command.judge q hops) r after = (r ≡ by_mesh (λ m. judged (judgement (unloaded m) q hops)) before.mesh) × (after ≡ before)
+Answers before (command.grid rule w h lanes depth capacity) r after = MakesGrid before rule w h lanes depth capacity r after
+Answers before (command.opens n q hops) r after = OnGrid (Opens n q hops) before.mesh before.grid r after
+Answers before (command.closes n) r after = OnGrid (Closes n) before.mesh before.grid r after
+Answers before (command.sends n x) r after = OnGrid (Sends n x) before.mesh before.grid r after
+Answers before (command.steps h) r after = OnGrid (Steps h) before.mesh before.grid r after
+Answers before (command.stream n) r after = (r ≡ by_grid (fields n) before.grid) × (after ≡ before)
+Answers before (command.route n) r after = (r ≡ by_grid (route n) before.grid) × (after ≡ before)
+Answers before (command.link_load k) r after = (r ≡ by_grid (link_load k) before.grid) × (after ≡ before)
+Answers before (command.count h) r after = (r ≡ by_grid (count h) before.grid) × (after ≡ before)
+Answers before command.items r after = (r ≡ by_grid items before.grid) × (after ≡ before)
+Answers before command.drains r after = (r ≡ by_grid lanes before.grid) × (after ≡ before)
 
 -- the reply to a line: the answer to its command, or the failure with the line's number
 abbrev pub Reply : Type 0

@@ -1,10 +1,11 @@
 -- How answers and failures are written.
-use Rattle.std.specs.Prelude.{ℕ, List, ◌++◌, Some, None, codes, decimal, Option}
+use Rattle.std.specs.Prelude.{ℕ, List, ◌++◌, min, take, flat_map, Some, None, codes, decimal, Option}
 use Rattle.refusals.specs.Numbers.{refusal_number}
 use Rattle.layouts.specs.Turns.{word_of}
+use Rattle.routes.specs.declared.hop.Hop.{Hop}
 use Rattle.script.specs.Mistakes.{text_of}
 use Rattle.session.specs.declared.answer.Answer.{Answer}
-use Rattle.session.specs.declared.answer.Answer.TheVariants.{Made, Ends, Turn, Accepted}
+use Rattle.session.specs.declared.answer.Answer.TheVariants.{Made, Ends, Turn, Accepted, Moved, Out, Fields, Route, Load, Count, Drain}
 use Rattle.session.specs.declared.failure.Failure.{Failure}
 use Rattle.session.specs.declared.failure.Failure.TheVariants as failure
 use Rattle.session.specs.declared.failure.LineFailure.{LineFailure}
@@ -14,12 +15,24 @@ abbrev pub refused_text : ℕ → Option ℕ → List ℕ
 refused_text n None = codes "refused " ++ decimal n
 refused_text n (Some k) = codes "refused " ++ (decimal n ++ (codes " hop " ++ decimal k))
 
--- ok TILES LINKS, ok START END, a turn's word, or ok
+-- a blank and a hop: LINK.LANE
+abbrev pub hop_text : Hop → List ℕ
+hop_text h = codes " " ++ (decimal h.link ++ (codes "." ++ decimal h.lane))
+
+-- ok TILES LINKS, ok START END, a turn's word, ok, moved STREAM, out STREAM FRAGMENT BAND ROW, ok FROM TO DEMAND,
+-- ok HOPS HOP.., ok LOAD, ok COUNT, or drain LINKS LANES
 abbrev pub answer_text : Answer → List ℕ
 answer_text (Made tiles links) = codes "ok " ++ (decimal tiles ++ (codes " " ++ decimal links))
 answer_text (Ends start end) = codes "ok " ++ (decimal start ++ (codes " " ++ decimal end))
 answer_text (Turn turn) = word_of turn
 answer_text Accepted = codes "ok"
+answer_text (Moved n) = codes "moved " ++ decimal n
+answer_text (Out n x) = codes "out " ++ (decimal n ++ (codes " " ++ (decimal x.fragment ++ (codes " " ++ (decimal x.band ++ (codes " " ++ decimal x.row))))))
+answer_text (Fields q) = codes "ok " ++ (decimal q.source ++ (codes " " ++ (decimal q.target ++ (codes " " ++ decimal q.demand))))
+answer_text (Route table count) = codes "ok " ++ (decimal count ++ flat_map hop_text (take (min count 24) table))
+answer_text (Load n) = codes "ok " ++ decimal n
+answer_text (Count n) = codes "ok " ++ decimal n
+answer_text (Drain links lanes) = codes "drain " ++ (decimal links ++ (codes " " ++ decimal lanes))
 
 -- why the call was declined, or error LINE: what is wrong
 abbrev pub failed_text : ℕ → Failure → List ℕ

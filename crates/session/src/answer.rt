@@ -1,8 +1,11 @@
 // The planner's answers, and how each is written.
-ghost use Rattle.std.specs.Prelude.{Some};
-ghost use Rattle.session.specs.Texts.{answer_text};
+ghost use Rattle.std.specs.Prelude.{Some, flat_map};
+ghost use Rattle.session.specs.Texts.{hop_text, answer_text};
 
+use lanes::strip::Strip;
 use layouts::turn::Turn;
+use routes::hop::Hop;
+use routes::stream::Request;
 use std::fmt;
 
 /// The answer to a command.
@@ -14,8 +17,37 @@ pub enum Answer {
     Ends(u16, u16),
     /// What is told of two links in a row.
     Turn(Turn),
-    /// The route is acceptable.
+    /// The route is acceptable, or the call is done.
     Accepted,
+    /// An item of this stream went on to its next hop.
+    Moved(u16),
+    /// This strip of this stream left the grid.
+    Out(u16, Strip),
+    /// What a stream asked for.
+    Fields(Request),
+    /// The hops of a route, at the front of a table, and their count.
+    Route([Hop; 24], usize),
+    /// The load of a link.
+    Load(u32),
+    /// A count of items.
+    Count(usize),
+    /// The lanes of so many links, so many to each, are to be stepped in turn until none will step.
+    Drain(u16, u16),
+}
+
+// Hops, each behind a blank.
+#[derive(Clone, Copy)]
+struct HopList<'a>(&'a [Hop]);
+
+impl fmt::Display for HopList<'_> {
+    ghost output = { λ list. Some (flat_map hop_text list.0.now) };
+
+    fn fmt<W: fmt::Write>(&self, f: &mut fmt::Formatter<W>) -> fmt::Result {
+        for Hop { link, lane } in self.0 {
+            write!(f, " {link}.{lane}")?;
+        }
+        Ok(())
+    }
 }
 
 impl fmt::Display for Answer {
@@ -27,6 +59,28 @@ impl fmt::Display for Answer {
             Answer::Ends(start, end) => write!(f, "ok {start} {end}"),
             Answer::Turn(turn) => write!(f, "{turn}"),
             Answer::Accepted => write!(f, "ok"),
+            Answer::Moved(stream) => write!(f, "moved {stream}"),
+            Answer::Out(
+                stream,
+                Strip {
+                    fragment,
+                    band,
+                    row,
+                },
+            ) => { write!(f, "out {stream} {fragment} {band} {row}") }
+            Answer::Fields(
+                Request {
+                    source,
+                    target,
+                    demand,
+                },
+            ) => { write!(f, "ok {source} {target} {demand}") }
+            Answer::Route(hops, count) => {
+                write!(f, "ok {count}{}", HopList(&hops[..(*count).min(24)]))
+            }
+            Answer::Load(load) => write!(f, "ok {load}"),
+            Answer::Count(count) => write!(f, "ok {count}"),
+            Answer::Drain(links, lanes) => write!(f, "drain {links} {lanes}"),
         }
     }
 }

@@ -2,8 +2,10 @@
 ghost use Rattle.std.specs.Prelude.{◌≡◌, Some};
 ghost use Rattle.routes.specs.Checks.{no_hop};
 ghost use Rattle.session.specs.declared.failure.Failure.TheVariants as failure;
+ghost use Rattle.session.specs.Failures.{making_failure};
 ghost use Rattle.session.specs.Texts.{failure_text};
 
+use grid::make::MakeError;
 use refusals::refusal::Refusal;
 use routes::declined::Declined;
 use script::mistake::Mistake;
@@ -40,6 +42,18 @@ impl From<Mistake> for Failure {
 
     fn from(mistake: Mistake) -> Failure {
         Failure::Mistake(mistake)
+    }
+}
+
+/// A grid that is refused is declined; for one that finds no memory that is the mistake.
+impl From<MakeError> for Failure {
+    ghost from_gives = { λ error result. result ≡ making_failure error };
+
+    fn from(error: MakeError) -> Failure {
+        match error {
+            MakeError::Refused(refusal) => refusal.into(),
+            MakeError::OutOfMemory => Mistake::OutOfMemory.into(),
+        }
     }
 }
 

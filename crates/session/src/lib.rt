@@ -2,5 +2,6 @@
 #![tactic(auto)]
 
 pub mod answer;
+mod at_hand;
 pub mod failure;
 pub mod session;

@@ -5,9 +5,11 @@ ghost use Rattle.layouts.specs.Mesh.{meaning_of};
 ghost use Rattle.routes.specs.Checks.{judgement, verdict};
 ghost use Rattle.script.specs.Commands.{instruction_of};
 ghost use Rattle.script.specs.declared.mistake.Mistake.TheVariants.{NoMesh};
-ghost use Rattle.session.specs.Sessions.{mesh_of, unloaded, Answers, Replies};
+ghost use Rattle.session.specs.Hands.{hand_of};
+ghost use Rattle.session.specs.Sessions.{unloaded, Answers, Replies};
 
 use crate::answer::Answer;
+use crate::at_hand::GridAtHand;
 use crate::failure::{Failure, LineFailure};
 use layouts::layout::Layout;
 use layouts::mesh::Mesh;
@@ -34,19 +36,22 @@ fn judge_unloaded(mesh: &Mesh, request: Request, hops: &[Hop]) -> Result<(), Dec
     judge(mesh, limits, request, hops)
 }
 
-// No `Model`: a session is `Copy`, and the model of such a type would have to give the mesh back.
-/// What a script has at hand: the mesh that it made last, if any.
-#[derive(Clone, Copy)]
+/// What a script has at hand: the mesh and the grid that it made last, if any.
+#[derive(Drop)]
 pub struct Session {
     mesh: Option<Mesh>,
+    grid: Option<GridAtHand>,
 }
 
 impl Session {
     /// A session with nothing at hand.
     pub fn new() -> Session
-        ensures { mesh_of result ≡ None }
+        ensures { hand_of result ≡ record { mesh = None; grid = None } }
     {
-        Session { mesh: None }
+        Session {
+            mesh: None,
+            grid: None,
+        }
     }
 
     // The mesh at hand.
@@ -56,10 +61,10 @@ impl Session {
         self.mesh.ok_or(Mistake::NoMesh)
     }
 
-    /// The answer to a command. A mesh that is made takes the place of the one at hand; a refusal or a mistake leaves it as
-    /// it was.
-    pub fn answer(&mut self, command: Command) -> Result<Answer, Failure>
-        ensures { Answers (mesh_of self.old) (instruction_of command) result (mesh_of self.new) }
+    /// The answer to a command. A mesh or a grid that is made takes the place of the one at hand; with a grid its mesh is at
+    /// hand too. A refusal or a mistake leaves all at hand as it was.
+    pub fn answer(&mut self, heap: Global, command: Command) -> Result<Answer, Failure>
+        ensures { Answers (hand_of self.old) (instruction_of command) result (hand_of self.new) }
     {
         // A match and not a closure for each command: the command is read from input, and each brings other values.
         match command {
@@ -77,22 +82,58 @@ impl Session {
                 judge_unloaded(&self.mesh()?, request, hops.as_slice())?;
                 Ok(Answer::Accepted)
             }
+            Command::Grid {
+                rule,
+                width,
+                height,
+                lanes,
+                depth,
+                capacity,
+            } => {
+                let mesh = Mesh::new(rule, width, height)?;
+                let grid = GridAtHand::blank(heap, mesh, lanes, depth, capacity)?;
+                self.mesh = Some(mesh);
+                self.grid = Some(grid);
+                Ok(Answer::Accepted)
+            }
+            Command::Open(stream, request, hops) => match &mut self.grid {
+                Some(grid) => grid.open(stream, request, hops.as_slice()),
+                None => Err(Mistake::NoGrid.into()),
+            },
+            Command::Close(stream) => match &mut self.grid {
+                Some(grid) => grid.close(stream),
+                None => Err(Mistake::NoGrid.into()),
+            },
+            Command::Send(stream, strip) => match &mut self.grid {
+                Some(grid) => grid.send(stream, strip),
+                None => Err(Mistake::NoGrid.into()),
+            },
+            Command::Step(hop) => match &mut self.grid {
+                Some(grid) => grid.step(hop),
+                None => Err(Mistake::NoGrid.into()),
+            },
+            Command::Stream(stream) => self.grid.as_ref().ok_or(Mistake::NoGrid)?.fields(stream),
+            Command::Route(stream) => self.grid.as_ref().ok_or(Mistake::NoGrid)?.route(stream),
+            Command::LinkLoad(link) => self.grid.as_ref().ok_or(Mistake::NoGrid)?.link_load(link),
+            Command::Count(hop) => self.grid.as_ref().ok_or(Mistake::NoGrid)?.count(hop),
+            Command::Items => Ok(self.grid.as_ref().ok_or(Mistake::NoGrid)?.items()),
+            Command::Drain => Ok(self.grid.as_ref().ok_or(Mistake::NoGrid)?.lanes()),
         }
     }
 
     /// The reply to a line of a script, none where the line has no word. Lines are counted from 1. Where there is no memory
-    /// for what the line says, that is the reply, and the mesh at hand is as it was.
+    /// for what the line says, that is the reply, and all at hand is as it was.
     pub fn reply(
         &mut self,
         heap: Global,
         number: u64,
         line: &[u8],
     ) -> Option<Result<Answer, LineFailure>>
-        ensures { Replies (mesh_of self.old) number line.now result (mesh_of self.new) }
+        ensures { Replies (hand_of self.old) number line.now result (hand_of self.new) }
     {
         let response = match parse(heap, line) {
             Ok(None) => return None,
-            Ok(Some(command)) => self.answer(command),
+            Ok(Some(command)) => self.answer(heap, command),
             Err(mistake) => Err(mistake.into()),
         };
         Some(response.map_err(|failure| LineFailure {

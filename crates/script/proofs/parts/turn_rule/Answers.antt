@@ -1,7 +1,7 @@
 use Rattle.std.proofs.Common.{◌≡◌, ℕ, List, length, codes, sym, ap, arith}
 use Rattle.std.proofs.lemmas.Slice.Eq.{HasBytesAt, text_from_reads}
-use Rattle.script.specs.Commands.{rule_of}
-use Rattle.script.proofs.parse.turn_rule.Goals as goal
+use Rattle.script.specs.Parts.{rule_of}
+use Rattle.script.proofs.parts.turn_rule.Goals as goal
 
 -- a word of these bytes names what they name
 reads : (word text : List ℕ) → (length word ≡ length text) × HasBytesAt word 0 text → rule_of text ≡ rule_of word

@@ -1,0 +1,80 @@
+-- The parts of a command, read from the words behind its name.
+use Rattle.std.specs.Prelude.{ℕ, zero, suc, cond, List, [], ◌∷◌, Ok, Err, codes}
+use Rattle.std.specs.Str.{bytes_eq}
+use Rattle.layouts.specs.declared.turn_rule.TurnRule.{TurnRule}
+use Rattle.layouts.specs.declared.turn_rule.TurnRule.TheVariants.{Xy, WestFirst, NorthLast, NegativeFirst}
+use Rattle.routes.specs.declared.hop.Hop.{Hop}
+use Rattle.routes.specs.declared.stream.Request.{Request}
+use Rattle.routes.specs.Routes.{hop_on}
+use Rattle.lanes.specs.declared.strip.Strip.{Strip}
+use Rattle.script.specs.declared.mistake.Mistake.TheVariants.{MissingWord, ExtraWord, UnknownRule}
+use Rattle.script.specs.Numbers.{decimal_of}
+use Rattle.script.specs.Reads.{Read, then}
+use Rattle.script.specs.Hops.{hops_in}
+
+-- the turn rule that a word names
+abbrev pub rule_of : List ℕ → Read TurnRule
+rule_of w =
+    cond (bytes_eq w (codes "xy")) (Ok Xy)
+    (cond (bytes_eq w (codes "west-first")) (Ok WestFirst)
+    (cond (bytes_eq w (codes "north-last")) (Ok NorthLast)
+    (cond (bytes_eq w (codes "negative-first")) (Ok NegativeFirst)
+    (Err UnknownRule))))
+
+-- the first word as f reads it, and the words behind it
+abbrev pub first : {A : Type 0} → (List ℕ → Read A) → List (List ℕ) → Read A
+first f [] = Err MissingWord
+first f (w ∷ ws) = f w
+
+abbrev pub behind : List (List ℕ) → List (List ℕ)
+behind [] = []
+behind (w ∷ ws) = ws
+
+-- the words behind the first n
+abbrev pub past : ℕ → List (List ℕ) → List (List ℕ)
+past zero ws = ws
+past (suc n) ws = past n (behind ws)
+
+abbrev pub first_rule : List (List ℕ) → Read TurnRule
+first_rule ws = first rule_of ws
+
+-- a number of 16 bits, of 8 and of 32
+abbrev pub first_number : List (List ℕ) → Read ℕ
+first_number ws = first (decimal_of 65535) ws
+
+abbrev pub first_small_number : List (List ℕ) → Read ℕ
+first_small_number ws = first (decimal_of 255) ws
+
+abbrev pub first_large_number : List (List ℕ) → Read ℕ
+first_large_number ws = first (decimal_of 4294967295) ws
+
+-- RULE WIDTH HEIGHT
+abbrev pub first_shape : List (List ℕ) → Read (TurnRule × ℕ × ℕ)
+first_shape ws =
+    then (first_rule ws) (λ rule. then (first_number (behind ws)) (λ w. then (first_number (past 2 ws)) (λ h. Ok (rule, w, h))))
+
+abbrev pub nothing_more : List (List ℕ) → Read (Unit {0})
+nothing_more [] = Ok tt
+nothing_more (w ∷ ws) = Err ExtraWord
+
+-- a number of 16 bits, and nothing more
+abbrev pub only_number : List (List ℕ) → Read ℕ
+only_number ws = then (first_number ws) (λ n. then (nothing_more (behind ws)) (λ _. Ok n))
+
+-- LINK LANE, and nothing more
+abbrev pub only_hop : List (List ℕ) → Read Hop
+only_hop ws =
+    then (first_number ws) (λ link. then (first_small_number (behind ws)) (λ lane.
+    then (nothing_more (past 2 ws)) (λ _. Ok (hop_on link lane))))
+
+-- FRAGMENT BAND ROW, and nothing more
+abbrev pub only_strip : List (List ℕ) → Read Strip
+only_strip ws =
+    then (first_large_number ws) (λ fragment. then (first_small_number (behind ws)) (λ band. then (first_number (past 2 ws)) (λ row.
+    then (nothing_more (past 3 ws)) (λ _. Ok (record { fragment = fragment; band = band; row = row })))))
+
+-- FROM TO DEMAND HOP..
+abbrev pub request_and_hops : List (List ℕ) → Read (Request × List Hop)
+request_and_hops ws =
+    then (first_number ws) (λ from. then (first_number (behind ws)) (λ to. then (first_number (past 2 ws)) (λ demand.
+    then (hops_in (past 3 ws)) (λ hops. Ok (record { source = from; target = to; demand = demand }, hops)))))

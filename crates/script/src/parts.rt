@@ -1,0 +1,136 @@
+// The parts of a command, read word by word.
+ghost use Rattle.std.specs.Prelude.{◌≡◌, vec_items, OnOk};
+ghost use Rattle.script.specs.Hops.{hops_in};
+ghost use Rattle.script.specs.Parts.{rule_of, first, first_number, first_shape, first_small_number, nothing_more, behind, past, only_number, only_hop, only_strip, request_and_hops};
+ghost use Rattle.script.specs.Reads.{said, Parses};
+
+use crate::hop::hop;
+use crate::mistake::Mistake;
+use crate::number::{decimal, number, small_number};
+use crate::words::Words;
+use lanes::strip::Strip;
+use layouts::turn_rule::TurnRule;
+use routes::hop::Hop;
+use routes::stream::Request;
+use std::alloc::Global;
+
+// The turn rule that a word names. No `TryFrom`: the rule is another crate's type, and these words are the script's.
+fn turn_rule(word: &[u8]) -> Result<TurnRule, Mistake>
+    ensures { result ≡ rule_of word.now }
+{
+    match word {
+        b"xy" => Ok(TurnRule::Xy),
+        b"west-first" => Ok(TurnRule::WestFirst),
+        b"north-last" => Ok(TurnRule::NorthLast),
+        b"negative-first" => Ok(TurnRule::NegativeFirst),
+        _ => Err(Mistake::UnknownRule),
+    }
+}
+
+impl<'a> Words<'a> {
+    // The next word, where one is wanted.
+    fn word(&mut self) -> Result<&'a [u8], Mistake>
+        ensures value { said (λ word. word.now) result ≡ first Ok self.old }
+        ensures after { self.new ≡ behind self.old }
+    {
+        self.next().ok_or(Mistake::MissingWord)
+    }
+
+    /// That no word is left.
+    pub(crate) fn end(&mut self) -> Result<(), Mistake>
+        ensures { result ≡ nothing_more self.old }
+    {
+        match self.next() {
+            Some(_) => Err(Mistake::ExtraWord),
+            None => Ok(()),
+        }
+    }
+
+    /// The next word as a number of 16 bits.
+    pub(crate) fn number(&mut self) -> Result<u16, Mistake>
+        ensures value { result ≡ first_number self.old }
+        ensures after { self.new ≡ behind self.old }
+    {
+        number(self.word()?)
+    }
+
+    // The next word as a number of 8 bits.
+    fn small_number(&mut self) -> Result<u8, Mistake>
+        ensures value { result ≡ first_small_number self.old }
+        ensures after { self.new ≡ behind self.old }
+    {
+        small_number(self.word()?)
+    }
+
+    /// The next words as a mesh: its rule, width and height.
+    pub(crate) fn shape(&mut self) -> Result<(TurnRule, u16, u16), Mistake>
+        ensures value { result ≡ first_shape self.old }
+        ensures after { OnOk result (self.new ≡ past 3 self.old) }
+    {
+        let rule = turn_rule(self.word()?)?;
+        let width = self.number()?;
+        let height = self.number()?;
+        Ok((rule, width, height))
+    }
+
+    /// The one word that is left as a number of 16 bits.
+    pub(crate) fn only_number(&mut self) -> Result<u16, Mistake>
+        ensures { result ≡ only_number self.old }
+    {
+        let number = self.number()?;
+        self.end()?;
+        Ok(number)
+    }
+
+    /// The two words that are left as a link and a lane.
+    pub(crate) fn only_hop(&mut self) -> Result<Hop, Mistake>
+        ensures { result ≡ only_hop self.old }
+    {
+        let link = self.number()?;
+        let lane = self.small_number()?;
+        self.end()?;
+        Ok(Hop { link, lane })
+    }
+
+    /// The three words that are left as a strip: its fragment, band and row.
+    pub(crate) fn only_strip(&mut self) -> Result<Strip, Mistake>
+        ensures { result ≡ only_strip self.old }
+    {
+        let fragment = decimal(self.word()?, u32::MAX)?;
+        let band = self.small_number()?;
+        let row = self.number()?;
+        self.end()?;
+        Ok(Strip {
+            fragment,
+            band,
+            row,
+        })
+    }
+
+    // The words that are left as hops.
+    fn hops(&mut self, heap: Global) -> Result<Vec<Hop>, Mistake>
+        ensures { Parses vec_items (Unit {0}) (hops_in self.old) result }
+    {
+        // a loop that pushes, since `try_collect` does not say that it fails where a hop does
+        let mut hops = Vec::new(heap);
+        for word in self.by_ref() {
+            hops.push(hop(word)?)?;
+        }
+        Ok(hops)
+    }
+
+    /// The words that are left as what a stream asks for, with the hops of a route.
+    pub(crate) fn request_and_hops(&mut self, heap: Global) -> Result<(Request, Vec<Hop>), Mistake>
+        ensures { Parses (λ a. (a.0, vec_items a.1)) (Unit {0}) (request_and_hops self.old) result }
+    {
+        let source = self.number()?;
+        let target = self.number()?;
+        let demand = self.number()?;
+        let request = Request {
+            source,
+            target,
+            demand,
+        };
+        Ok((request, self.hops(heap)?))
+    }
+}

@@ -1,0 +1,30 @@
+use Rattle.std.proofs.Common.{vec_items}
+use Rattle.session.specs.Hands.{hand_of}
+use Rattle.session.specs.Sessions.{Opens, Closes, Sends, Steps}
+use Rattle.session.proofs.OnGrids.{on_grid, grid_made}
+use Rattle.session.proofs.session.Session.answer.Goals as goal
+
+pub returns-in-Grid : goal.returns-in-Grid
+returns-in-Grid c =
+    let mesh = c.in_ok-mesh-in-Grid.ensures.value in
+    rw c.in-Grid.is
+    (grid_made (hand_of c.args.self.now) c.in-Grid.rule c.in-Grid.width c.in-Grid.height c.in-Grid.lanes c.in-Grid.depth c.in-Grid.capacity
+    c.in_ok-mesh-in-Grid.mesh c.in_ok-grid-in-Grid.grid mesh.0 mesh.1 c.in_ok-grid-in-Grid.ensures)
+
+pub returns-in-Some : goal.returns-in-Some
+returns-in-Some c =
+    rw c.in-Open.is
+    (on_grid (Opens c.in-Open.stream c.in-Open.request (vec_items c.in-Open.hops)) c.args.self.now c.in-Some.grid c.open.new.self c.open.result c.in-Some.is
+    (rw c.as_slice-in-Some.ensures.value at c.open.ensures))
+
+pub returns-in-Some-grid : goal.returns-in-Some-grid
+returns-in-Some-grid c =
+    rw c.in-Close.is (on_grid (Closes c.in-Close.stream) c.args.self.now c.in-Some-grid.grid c.close.new.self c.close.result c.in-Some-grid.is c.close.ensures)
+
+pub returns-in-Some-grid-2 : goal.returns-in-Some-grid-2
+returns-in-Some-grid-2 c =
+    rw c.in-Send.is (on_grid (Sends c.in-Send.stream c.in-Send.strip) c.args.self.now c.in-Some-grid-2.grid c.send.new.self c.send.result c.in-Some-grid-2.is c.send.ensures)
+
+pub returns-in-Some-grid-3 : goal.returns-in-Some-grid-3
+returns-in-Some-grid-3 c =
+    rw c.in-Step.is (on_grid (Steps c.in-Step.hop) c.args.self.now c.in-Some-grid-3.grid c.step.new.self c.step.result c.in-Some-grid-3.is c.step.ensures)

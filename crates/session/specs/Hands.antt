@@ -1,0 +1,26 @@
+-- What a session has at hand.
+use Rattle.std.specs.Prelude.{List, Option, vec_items}
+use Rattle.std.specs.Option.{option_map}
+use Rattle.layouts.specs.Layout.{Meaning}
+use Rattle.layouts.specs.Mesh.{meaning_of}
+use Rattle.lanes.specs.declared.strip.Strip.{Strip}
+use Rattle.grid.specs.declared.tables.Tables.{Tables}
+use Rattle.session.specs.declared.at_hand.GridAtHand.{GridAtHand}
+use Rattle.session.specs.declared.session.Session.{Session}
+
+-- A grid with its item slots: the meaning of its layout, its tables, and the strips in the slots.
+pub record GridHand : Type 0 where
+  pub layout : Meaning
+  pub tables : Tables
+  pub slots : List Strip
+
+-- The meaning of the mesh made last, and the grid made last.
+pub record Hand : Type 0 where
+  pub mesh : Option Meaning
+  pub grid : Option GridHand
+
+abbrev pub grid_of : GridAtHand → GridHand
+grid_of g = record { layout = meaning_of g.grid.layout; tables = g.grid.tables; slots = vec_items g.slots }
+
+abbrev pub hand_of : Session → Hand
+hand_of s = record { mesh = option_map meaning_of s.mesh; grid = option_map grid_of s.grid }

@@ -1,6 +1,10 @@
 // The planner: reads a script from standard input and prints the reply to each of its lines.
 #![tactic(auto)]
 
+mod drain;
+
+use crate::drain::drain;
+use session::answer::Answer;
 use session::session::Session;
 use std::io;
 use std::io::{BufRead, BufReader};
@@ -14,6 +18,7 @@ fn main(rt: HostRuntime) -> io::Result<()> {
         number = number.saturating_add(1);
         match session.reply(rt.alloc(), number, line.as_slice()) {
             None => {}
+            Some(Ok(Answer::Drain(links, lanes))) => drain(&rt, &mut session, links, lanes)?,
             Some(Ok(answer)) => println!(rt; "{answer}")?,
             Some(Err(failure)) => println!(rt; "{failure}")?,
         }

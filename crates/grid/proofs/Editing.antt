@@ -21,19 +21,19 @@ use Rattle.lanes.specs.declared.size.Size.{Size}
 use Rattle.lanes.specs.Sizes.{holds, setting_of}
 use Rattle.lanes.specs.Queues.{queues_of}
 use Rattle.grid.specs.declared.tables.Tables.{Tables}
-use Rattle.grid.specs.Views.{streams_in, alike, outline, setting}
+use Rattle.grid.specs.Views.{streams_in, slots_alike, outline, setting}
 use Rattle.grid.specs.Makes.{Edits}
 use Rattle.grid.proofs.Lifted.{refused}
 
 -- a call that is declined leaves everything as it was
 pub edit_refused : (m : Meaning) (t : Tables) (c : Call (Unit {0})) (d : Declined)
-    → outcome (setting m t (length (alike t))) (outline t) c ≡ refuse d (outline t) → Edits m t c (declined d) t
-edit_refused m t c d is = record { made = refused m t (alike t) c d is; lanes = refl }
+    → outcome (setting m t (length (slots_alike t))) (outline t) c ≡ refuse d (outline t) → Edits m t c (declined d) t
+edit_refused m t c d is = record { made = refused m t (slots_alike t) c d is; lanes = refl }
 
 -- a call that is done has put another entry in the place of a stream
 pub edited : (m : Meaning) (t t' : Tables) (n : ℕ) (entry : Option OpenStream) (c : Call (Unit {0}))
     → streams_in t' ≡ assign (streams_in t) n entry → t'.lanes ≡ t.lanes → t'.capacity ≡ t.capacity
-    → outcome (setting m t (length (alike t))) (outline t) c ≡ record { answer = done; grid = with_stream (outline t) n entry }
+    → outcome (setting m t (length (slots_alike t))) (outline t) c ≡ record { answer = done; grid = with_stream (outline t) n entry }
     → arrival (outline t) c ≡ None → Edits m t c done t'
 edited m t t' n entry c streams lanes capacity is arrives = record {
   made = record {
@@ -76,14 +76,14 @@ acceptable_holds s t q hops links lanes a = all_hold s hops (λ k less. let on =
 -- Close, where the links are as many as the layout has.
 module _ (m : Meaning) (t : Tables) (links : m.links ≡ t.lanes.size.links) (n : ℕ) where
   abbrev S : Setting
-  S = setting m t (length (alike t))
+  S = setting m t (length (slots_alike t))
 
   pub not_open : (e : Refusal) → open_stream (streams_in t) n ≡ Err e → closing S (outline t) n ≡ refuse (no_hop e) (outline t)
   unfolding close_refusal
   not_open e is = rw is refl
 
   module _ (s : OpenStream) (is : open_stream (streams_in t) n ≡ Ok s) (items : ℕ)
-      (count : items ≡ item_count_of (setting_of t.lanes.size 0) (queues_of t.lanes (alike t)) n) where
+      (count : items ≡ item_count_of (setting_of t.lanes.size 0) (queues_of t.lanes (slots_alike t)) n) where
     items_are : item_count_of S (outline t) n ≡ items
     items_are = grid_sum_same_lanes S (setting_of t.lanes.size 0) (one_of n) (outline t).contents links refl ∙ sym count
 

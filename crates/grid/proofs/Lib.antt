@@ -1,4 +1,5 @@
 pub mod Starting
 pub mod StreamTables
 pub mod Lifted
+pub mod ItemCalls
 pub mod Editing

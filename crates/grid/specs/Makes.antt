@@ -14,7 +14,7 @@ use Rattle.lanes.specs.Sizes.{holds}
 use Rattle.grid.specs.declared.step.Step.{Step}
 use Rattle.grid.specs.declared.step.Step.TheVariants.{Moved, Out}
 use Rattle.grid.specs.declared.tables.Tables.{Tables}
-use Rattle.grid.specs.Views.{streams_in, setting, view, alike}
+use Rattle.grid.specs.Views.{streams_in, setting, view, slots_alike}
 
 -- what a step that goes answers
 abbrev pub step_answer : {T : Type 0} → Step T → Answer T
@@ -57,5 +57,5 @@ Accepts m t q hops (Err d) = (setting m t 0).judge (streams_in t) q hops ≡ Som
 
 -- A call that is lent no slots has its outcome on the outline, and leaves the lanes and the place of every item.
 pub record Edits (m : Meaning) (t : Tables) (c : Call (Unit {0})) (a : Answer (Unit {0})) (t' : Tables) : Type 0 where
-  pub made : Makes m t (alike t) c a t' (alike t)
+  pub made : Makes m t (slots_alike t) c a t' (slots_alike t)
   pub lanes : t'.lanes ≡ t.lanes

@@ -20,12 +20,12 @@ abbrev pub view : {T : Type 0} → Tables → List T → Grid T
 view t slots = with_streams (streams_in t) (queues_of t.lanes slots)
 
 -- slots for all lanes, whose items are all alike
-abbrev pub alike : Tables → List (Unit {0})
-alike t = alike_slots t.lanes.size
+abbrev pub slots_alike : Tables → List (Unit {0})
+slots_alike t = alike_slots t.lanes.size
 
 -- The grid without its items: which stream each item is of. It is told by the tables alone, whatever the slots hold.
 abbrev pub outline : Tables → Grid (Unit {0})
-outline t = view t (alike t)
+outline t = view t (slots_alike t)
 
 -- the grid's setting on a layout of this meaning, with so many slots lent
 abbrev pub setting : Meaning → Tables → ℕ → Setting

@@ -1,7 +1,7 @@
 // The questions, which change nothing.
 ghost use Rattle.std.specs.Prelude.{◌≡◌};
 ghost use Rattle.model.specs.Sums.{item_count};
-ghost use Rattle.model.specs.Questions.{fields_of, hops_of_stream, load_told, count_told};
+ghost use Rattle.model.specs.Questions.{fields_of, hops_of_stream, load_on, count_in};
 ghost use Rattle.grid.specs.Views.{streams_in, outline, setting};
 ghost use Rattle.grid.specs.Routes.{TellsRoute};
 
@@ -49,7 +49,7 @@ impl<L: Layout> Grid<L> {
 
     /// The load of a link. Refuses a link that is not there by `OffGrid`.
     pub fn link_load(&self, link: u16) -> Result<u32, Refusal>
-        ensures { result ≡ load_told (L.meaning self.now.layout).links (streams_in self.now.tables) link }
+        ensures { result ≡ load_on (L.meaning self.now.layout).links (streams_in self.now.tables) link }
     {
         if link >= self.layout.links() {
             return Err(Refusal::OffGrid);
@@ -59,7 +59,7 @@ impl<L: Layout> Grid<L> {
 
     /// How many items a lane contains. Refuses a link or a lane that is not there by `OffGrid`.
     pub fn count(&self, hop: Hop) -> Result<u16, Refusal>
-        ensures { result ≡ count_told (setting (L.meaning self.now.layout) self.now.tables 0) (outline self.now.tables) hop }
+        ensures { result ≡ count_in (setting (L.meaning self.now.layout) self.now.tables 0) (outline self.now.tables) hop }
     {
         self.tables.lanes.count(hop)
     }

@@ -1,7 +1,7 @@
 // How many items the lanes contain.
 ghost use Rattle.std.specs.Prelude.{◌≡◌, ◌<◌, ◌≤◌, ◌==◌, count_by};
 ghost use Rattle.model.specs.Sums.{item_count, item_count_of};
-ghost use Rattle.model.specs.Questions.{count_told};
+ghost use Rattle.model.specs.Questions.{count_in};
 ghost use Rattle.lanes.specs.Sizes.{lane_count, setting_of};
 ghost use Rattle.lanes.specs.Queues.{outline_at, outline};
 
@@ -12,7 +12,7 @@ use routes::hop::Hop;
 impl Lanes {
     /// How many items the lane of a hop contains. Refuses a link or a lane that is not there by `OffGrid`.
     pub fn count(&self, hop: Hop) -> Result<u16, Refusal>
-        ensures { result ≡ count_told (setting_of self.now.size 0) (outline self.now) hop }
+        ensures { result ≡ count_in (setting_of self.now.size 0) (outline self.now) hop }
     {
         if !self.size.holds(hop) {
             return Err(Refusal::OffGrid);

@@ -30,8 +30,8 @@ pub data Answer (T : Type 0) : Type 0 where
 
 -- the answer that a result stands for
 abbrev pub answer_of : {T A : Type 0} → (A → Answer T) → Result A Refusal → Answer T
-answer_of told (Ok a) = told a
-answer_of told (Err refusal) = declined (no_hop refusal)
+answer_of f (Ok a) = f a
+answer_of f (Err refusal) = declined (no_hop refusal)
 
 -- what declines by a result that is a refusal
 abbrev pub declines : {A : Type 0} → Result A Refusal → Option Declined

@@ -8,7 +8,7 @@ use Rattle.routes.specs.Loads.{sum_below}
 use Rattle.model.specs.Grid.{Setting, Queue, Grid}
 use Rattle.model.specs.Sums.{queue_sum, grid_sum, one, item_count, one_of, item_count_of}
 use Rattle.model.specs.Calls.{close_refusal}
-use Rattle.model.specs.Questions.{count_told}
+use Rattle.model.specs.Questions.{count_in}
 
 -- a queue, and a grid, with all items alike
 abbrev pub alike : {T : Type 0} → Queue T → Queue (Unit {0})
@@ -46,5 +46,5 @@ module _ {T : Type 0} (S : Setting) (g : Grid T) where
   unfolding close_refusal
   close_refusal-without_items n = rw (item_count_of-without_items n)
 
-  pub count_told-without_items : (h : Hop) → count_told S (without_items g) h ≡ count_told S g h
-  count_told-without_items h = rw length-map
+  pub count_in-without_items : (h : Hop) → count_in S (without_items g) h ≡ count_in S g h
+  count_in-without_items h = rw length-map

@@ -18,9 +18,9 @@ abbrev pub hops_of_stream : (ℕ → Option OpenStream) → ℕ → Result (List
 hops_of_stream streams n = result_map_both (λ s. s.hops) (λ e. e) (open_stream streams n)
 
 -- the load of a link, of so many
-abbrev pub load_told : ℕ → (ℕ → Option OpenStream) → ℕ → Result ℕ Refusal
-load_told links streams link = cond (nat_lt link links) (Ok (load streams link)) (Err OffGrid)
+abbrev pub load_on : ℕ → (ℕ → Option OpenStream) → ℕ → Result ℕ Refusal
+load_on links streams link = cond (nat_lt link links) (Ok (load streams link)) (Err OffGrid)
 
 -- how many items a lane contains
-abbrev pub count_told : {T : Type 0} → Setting → Grid T → Hop → Result ℕ Refusal
-count_told S g h = cond (is_on_grid S.links S.lanes h) (Ok (length (g.contents h.link h.lane))) (Err OffGrid)
+abbrev pub count_in : {T : Type 0} → Setting → Grid T → Hop → Result ℕ Refusal
+count_in S g h = cond (is_on_grid S.links S.lanes h) (Ok (length (g.contents h.link h.lane))) (Err OffGrid)

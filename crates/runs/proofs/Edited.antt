@@ -14,30 +14,30 @@ use Rattle.model.specs.Runs.{is_declined}
 use Rattle.model.specs.Slots.{arrival}
 use Rattle.lanes.specs.Queues.{queues_of}
 use Rattle.grid.specs.declared.tables.Tables.{Tables}
-use Rattle.grid.specs.Views.{streams_in, with_streams, view, alike, outline, setting}
+use Rattle.grid.specs.Views.{streams_in, with_streams, view, slots_alike, outline, setting}
 use Rattle.grid.specs.Makes.{Makes, Edits}
 use Rattle.runs.specs.Calls.{Shown}
 
 -- the answer of a call that is done, unless it is declined
-abbrev pub told : {T : Type 0} → Option Declined → Answer T
-told None = done
-told (Some d) = declined d
+abbrev pub answer_by : {T : Type 0} → Option Declined → Answer T
+answer_by None = done
+answer_by (Some d) = declined d
 
-told_alike : (o r : Option Declined) → told {T = Unit {0}} o ≡ told r → o ≡ r
-told_alike None None e = refl
-told_alike None (Some d) e = cc
-told_alike (Some d) None e = cc
-told_alike (Some d) (Some e) is = cc
+answer_by-same : (o r : Option Declined) → answer_by {T = Unit {0}} o ≡ answer_by r → o ≡ r
+answer_by-same None None e = refl
+answer_by-same None (Some d) e = cc
+answer_by-same (Some d) None e = cc
+answer_by-same (Some d) (Some e) is = cc
 
-is_told : (T : Type 0) (o : Option Declined) → is_declined {T = T} (told o) ≡ is_some o
-is_told T None = refl
-is_told T (Some d) = refl
+is_declined-answer_by : (T : Type 0) (o : Option Declined) → is_declined {T = T} (answer_by o) ≡ is_some o
+is_declined-answer_by T None = refl
+is_declined-answer_by T (Some d) = refl
 
 -- a grid with another entry in the place of a stream, unless that is declined
 abbrev entering : {T : Type 0} → Option Declined → Grid T → ℕ → Option OpenStream → Outcome T
 entering r g n entry = unless_declined r g (record { answer = done; grid = with_stream g n entry })
 
-entering_answer : {T : Type 0} (r : Option Declined) (g : Grid T) (n : ℕ) (entry : Option OpenStream) → (entering r g n entry).answer ≡ told r
+entering_answer : {T : Type 0} (r : Option Declined) (g : Grid T) (n : ℕ) (entry : Option OpenStream) → (entering r g n entry).answer ≡ answer_by r
 entering_answer None g n entry = refl
 entering_answer (Some d) g n entry = refl
 
@@ -49,34 +49,34 @@ entering_grid (Some d) streams g h n entry = refl
 module _ {T : Type 0} (m : Meaning) (t t' : Tables) (xs : List T) (n : ℕ) (entry : Option OpenStream) (r o : Option Declined) where
   -- a call on the outline that is one on the grid
   lifts : (c : Call (Unit {0})) (c' : Call T)
-      → outcome (setting m t (length (alike t))) (outline t) c ≡ entering r (outline t) n entry
+      → outcome (setting m t (length (slots_alike t))) (outline t) c ≡ entering r (outline t) n entry
       → outcome (setting m t (length xs)) (view t xs) c' ≡ entering r (view t xs) n entry
       → arrival (view t xs) c' ≡ None
-      → Edits m t c (told o) t' → Makes m t xs c' (told o) t' xs
+      → Edits m t c (answer_by o) t' → Makes m t xs c' (answer_by o) t' xs
   lifts c c' is is' arrives edits =
       let made = edits.made in
-      let same : o ≡ r = told_alike o r (made.answer ∙ ap (λ o. o.answer) is ∙ entering_answer r (outline t) n entry) in
+      let same : o ≡ r = answer_by-same o r (made.answer ∙ ap (λ o. o.answer) is ∙ entering_answer r (outline t) n entry) in
       record {
-        answer = ap told same ∙ sym (entering_answer r (view t xs) n entry) ∙ ap (λ o. o.answer) (sym is');
+        answer = ap answer_by same ∙ sym (entering_answer r (view t xs) n entry) ∙ ap (λ o. o.answer) (sym is');
         grid =
             ap (λ l. with_streams (streams_in t') (queues_of l xs)) edits.lanes
             ∙ ap (λ g. with_streams g.streams (queues_of t.lanes xs)) (made.grid ∙ ap (λ o. o.grid) is)
-            ∙ entering_grid r (streams_in t) (queues_of t.lanes xs) (queues_of t.lanes (alike t)) n entry
+            ∙ entering_grid r (streams_in t) (queues_of t.lanes xs) (queues_of t.lanes (slots_alike t)) n entry
             ∙ ap (λ o. o.grid) (sym is');
         slots = rw (is', arrives) (cond_both (is_declined (entering r (view t xs) n entry).answer) _ _ (λ l. xs ≡ l) (λ _. refl) (λ _. refl));
         size = made.size;
         capacity = made.capacity;
-        declined = λ e. made.declined (is_told (Unit {0}) o ∙ sym (is_told T o) ∙ e);
+        declined = λ e. made.declined (is_declined-answer_by (Unit {0}) o ∙ sym (is_declined-answer_by T o) ∙ e);
       }
 
 module _ {T : Type 0} (m : Meaning) (t t' : Tables) (xs : List T) (n : ℕ) (o : Option Declined) where
-  pub opened : (q : Request) (hops : List Hop) → Edits m t (opens n q hops) (told o) t' → Makes m t xs (opens n q hops) (told o) t' xs
+  pub opened : (q : Request) (hops : List Hop) → Edits m t (opens n q hops) (answer_by o) t' → Makes m t xs (opens n q hops) (answer_by o) t' xs
   unfolding open_refusal
   opened q hops edits =
       lifts m t t' xs n (Some (record { request = q; hops = hops })) (open_refusal (setting m t (length xs)) (view t xs) n q hops) o
       (opens n q hops) (opens n q hops) refl refl refl edits
 
-  pub closed : Shown t xs → Edits m t (closes n) (told o) t' → Makes m t xs (closes n) (told o) t' xs
+  pub closed : Shown t xs → Edits m t (closes n) (answer_by o) t' → Makes m t xs (closes n) (answer_by o) t' xs
   unfolding close_refusal grid_sum
   closed shown edits =
       let S = setting m t (length xs) in

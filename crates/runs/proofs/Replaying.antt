@@ -13,13 +13,13 @@ use Rattle.model.specs.Outlines.{without_items}
 use Rattle.model.specs.Law.{Keeps}
 use Rattle.lanes.specs.Blanks.{blank_queues}
 use Rattle.grid.specs.declared.tables.Tables.{Tables}
-use Rattle.grid.specs.Views.{view, alike, setting}
+use Rattle.grid.specs.Views.{view, slots_alike, setting}
 use Rattle.grid.specs.Makes.{Makes}
 use Rattle.grid.specs.Blank.{BlankTables}
 use Rattle.runs.specs.declared.call.Call.{Call}
 use Rattle.runs.specs.declared.call.Reply.{Reply}
 use Rattle.runs.specs.Calls.{asked, answered, Shown}
-use Rattle.runs.specs.Runs.{history, answers_to, Leaves, Replays}
+use Rattle.runs.specs.Runs.{history, answers_to, LeftBy, Replays}
 use Rattle.runs.proofs.Showing.{length-slots_after}
 
 -- ---- one call more
@@ -41,7 +41,7 @@ pub record Made {T : Type 0} (S : Setting) (m : Meaning) (xs : List T) (calls : 
   pub room : length answers ≡ length calls
   pub shown : Shown t xs'
   pub answers_are : map answered (take k answers) ≡ answers_to S start (take k calls)
-  pub leaves : Leaves S (history start (take k calls)) xs t xs'
+  pub leaves : LeftBy S (history start (take k calls)) xs t xs'
 
 module _ {T : Type 0} (S : Setting) (m : Meaning) (xs : List T) (calls : List (Call T)) (k : ℕ) (less : k < length calls) (answers : List (Result (Reply T) Declined))
     (t t' : Tables) (xs' xs'' : List T) (made : Made S m xs calls k answers t xs') (c : Call T) (is : c ≡ get_or calls k c) (a : Result (Reply T) Declined)
@@ -86,7 +86,7 @@ module _ {T : Type 0} (m : Meaning) (lanes depth capacity : ℕ) (xs : List T) (
   made_none is_blank room = record {
     set_so = rw (is_blank.has_lanes, is_blank.has_depth, is_blank.has_capacity) refl;
     room = room;
-    shown = ap without_items (blank_queues t.lanes is_blank.no_item xs) ∙ sym (blank_queues t.lanes is_blank.no_item (alike t));
+    shown = ap without_items (blank_queues t.lanes is_blank.no_item xs) ∙ sym (blank_queues t.lanes is_blank.no_item (slots_alike t));
     answers_are = refl;
     leaves = record {
       grid = rw (fun_ext is_blank.no_stream, blank_queues t.lanes is_blank.no_item xs) refl;

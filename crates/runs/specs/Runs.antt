@@ -25,7 +25,7 @@ answers_to S past [] = []
 answers_to S past (c ∷ calls) = answer_to S past (asked c) ∷ answers_to S (past ▸ asked c) calls
 
 -- What the calls of a past leave of a blank grid and of the slots: the grid in words, and each slot.
-pub record Leaves {T : Type 0} (S : Setting) (past : History T) (xs : List T) (t : Tables) (xs' : List T) : Type 0 where
+pub record LeftBy {T : Type 0} (S : Setting) (past : History T) (xs : List T) (t : Tables) (xs' : List T) : Type 0 where
   pub grid : view t xs' ≡ after S past
   pub slots : xs' ≡ slots_left S past xs
 
@@ -33,5 +33,5 @@ pub record Leaves {T : Type 0} (S : Setting) (past : History T) (xs : List T) (t
 -- leave what it leaves; and the whole law of every run holds of it.
 pub record Replays {T : Type 0} (m : Meaning) (lanes depth capacity : ℕ) (xs : List T) (calls : List (Call T)) (answers : List (Result (Reply T) Declined)) (t : Tables) (xs' : List T) : Type 0 where
   pub answers_are : map answered answers ≡ answers_to (on_layout m lanes depth capacity (length xs)) start calls
-  pub leaves : Leaves (on_layout m lanes depth capacity (length xs)) (history start calls) xs t xs'
+  pub leaves : LeftBy (on_layout m lanes depth capacity (length xs)) (history start calls) xs t xs'
   pub law : Keeps (on_layout m lanes depth capacity (length xs)) (history start calls)

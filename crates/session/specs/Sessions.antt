@@ -13,7 +13,7 @@ use Rattle.routes.specs.declared.hop.Hop.{Hop}
 use Rattle.routes.specs.declared.stream.Request.{Request}
 use Rattle.model.specs.Sums.{item_count}
 use Rattle.model.specs.Calls.{opens, closes, sends, steps, answer_of, done}
-use Rattle.model.specs.Questions.{fields_of, hops_of_stream, load_told, count_told}
+use Rattle.model.specs.Questions.{fields_of, hops_of_stream, load_on, count_in}
 use Rattle.lanes.specs.declared.strip.Strip.{Strip}
 use Rattle.lanes.specs.Sizes.{slot_count}
 use Rattle.grid.specs.declared.step.Step.{Step}
@@ -94,9 +94,9 @@ OnGrid Calls mesh None r after = (r ≡ Err (failure.Mistake NoGrid)) × (after 
 OnGrid Calls mesh (Some g) r after = (g' : GridHand) × Calls g r g' × (after ≡ record { mesh = mesh; grid = Some g' })
 
 -- what a value answers, or why there is none
-abbrev pub told : {A : Type 0} → (A → Answer) → Result A Refusal → Response
-told f (Ok a) = Ok (f a)
-told f (Err refusal) = refused refusal
+abbrev pub response_by : {A : Type 0} → (A → Answer) → Result A Refusal → Response
+response_by f (Ok a) = Ok (f a)
+response_by f (Err refusal) = refused refusal
 
 abbrev pub ended : Result (Unit {0}) Declined → Response
 ended (Ok a) = Ok Accepted
@@ -115,17 +115,17 @@ Opens n q hops g r g' =
 abbrev pub Closes : ℕ → GridHand → Response → GridHand → Type 0
 Closes n g r g' =
     (a : Result (Unit {0}) Refusal) × Edits g.layout g.tables (closes n) (answer_of (λ _. done) a) g'.tables
-    × (g'.layout ≡ g.layout) × (g'.slots ≡ g.slots) × (r ≡ told (λ _. Accepted) a)
+    × (g'.layout ≡ g.layout) × (g'.slots ≡ g.slots) × (r ≡ response_by (λ _. Accepted) a)
 
 abbrev pub Sends : ℕ → Strip → GridHand → Response → GridHand → Type 0
 Sends n x g r g' =
     (a : Result (Unit {0}) Refusal) × Makes g.layout g.tables g.slots (sends n x) (answer_of (λ _. done) a) g'.tables g'.slots
-    × (g'.layout ≡ g.layout) × (r ≡ told (λ _. Accepted) a)
+    × (g'.layout ≡ g.layout) × (r ≡ response_by (λ _. Accepted) a)
 
 abbrev pub Steps : Hop → GridHand → Response → GridHand → Type 0
 Steps h g r g' =
     (a : Result (Step Strip) Refusal) × Makes g.layout g.tables g.slots (steps h.link h.lane) (answer_of step_answer a) g'.tables g'.slots
-    × (g'.layout ≡ g.layout) × (r ≡ told stepped a)
+    × (g'.layout ≡ g.layout) × (r ≡ response_by stepped a)
 
 -- a route in a table of 24 hops, which are 0.0 behind its own
 abbrev pub routed : List Hop → Answer
@@ -133,16 +133,16 @@ routed hops = Route (hops ++ drop (length hops) (replicate 24 (hop_on 0 0))) (le
 
 -- what a question about a grid is answered
 abbrev pub fields : ℕ → GridHand → Response
-fields n g = told Fields (fields_of (streams_in g.tables) n)
+fields n g = response_by Fields (fields_of (streams_in g.tables) n)
 
 abbrev pub route : ℕ → GridHand → Response
-route n g = told routed (hops_of_stream (streams_in g.tables) n)
+route n g = response_by routed (hops_of_stream (streams_in g.tables) n)
 
 abbrev pub link_load : ℕ → GridHand → Response
-link_load k g = told Load (load_told g.layout.links (streams_in g.tables) k)
+link_load k g = response_by Load (load_on g.layout.links (streams_in g.tables) k)
 
 abbrev pub count : Hop → GridHand → Response
-count h g = told Count (count_told (setting g.layout g.tables 0) (outline g.tables) h)
+count h g = response_by Count (count_in (setting g.layout g.tables 0) (outline g.tables) h)
 
 abbrev pub items : GridHand → Response
 items g = Ok (Count (item_count (setting g.layout g.tables 0) (outline g.tables)))

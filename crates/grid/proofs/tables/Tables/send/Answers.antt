@@ -1,7 +1,8 @@
 use Rattle.std.proofs.Common.{refl, ap, arith}
 use Rattle.std.proofs.lemmas.Result.{err_from_is_err_and}
 use Rattle.lanes.specs.Sizes.{slot_count}
-use Rattle.grid.proofs.Lifted.{refused, lifted, too_few, not_open, sending_pushes, sending_arrival}
+use Rattle.grid.proofs.Lifted.{refused, lifted}
+use Rattle.grid.proofs.ItemCalls.{too_few, not_open, sending_pushes, sending_arrival}
 use Rattle.grid.proofs.tables.Tables.send.Goals as goal
 
 pub returns-then-slots : goal.returns-then-slots

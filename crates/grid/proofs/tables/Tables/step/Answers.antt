@@ -1,7 +1,8 @@
 use Rattle.std.proofs.Common.{refl}
 use Rattle.std.proofs.lemmas.Result.{err_from_is_err_and}
 use Rattle.grid.proofs.Starting.{next_on_grid}
-use Rattle.grid.proofs.Lifted.{refused, no_step, step_pops, step_moves}
+use Rattle.grid.proofs.Lifted.{refused}
+use Rattle.grid.proofs.ItemCalls.{no_step, step_pops, step_moves}
 use Rattle.grid.proofs.tables.Tables.step.Goals as goal
 
 pub returns-in_err-stream : goal.returns-in_err-stream

@@ -1,5 +1,5 @@
 // Making a blank grid.
-ghost use Rattle.std.specs.Prelude.{◌≡◌, ℕ, None, MatchResult};
+ghost use Rattle.std.specs.Prelude.{◌≡◌, ℕ, None, IfOk, IfErr};
 ghost use Rattle.grid.specs.declared.make.MakeError.TheVariants.{Refused, OutOfMemory};
 ghost use Rattle.grid.specs.Views.{streams_in};
 ghost use Rattle.grid.specs.Blank.{making_refusal, BlankTables, NotMade};
@@ -60,7 +60,9 @@ impl<L: Layout + Drop> Grid<L> {
         depth: u16,
         capacity: u16,
     ) -> Result<Grid<L>, MakeError>
-        ensures { MatchResult result (λ g. (making_refusal lanes depth capacity ≡ None) × (g.layout ≡ layout) × BlankTables (L.meaning layout).links lanes depth capacity g.tables) (λ e. NotMade lanes depth capacity e) }
+        ensures made { IfOk result (λ g. (making_refusal lanes depth capacity ≡ None) × BlankTables (L.meaning layout).links lanes depth capacity g.tables) }
+        ensures layout { IfOk result (λ g. g.layout ≡ layout) }
+        ensures refused { IfErr result (λ e. NotMade lanes depth capacity e) }
     {
         let size = Size::new(layout.links(), lanes, depth)?;
         if capacity == 0 {

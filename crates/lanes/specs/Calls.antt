@@ -1,11 +1,12 @@
 -- What the calls on lanes answer and leave.
-use Rattle.std.specs.Prelude.{◌≡◌, ℕ, ◌<◌, ◌≤◌, true, cond, List, [], ◌∷◌, length, Some, None, Option}
+use Rattle.std.specs.Prelude.{◌≡◌, ℕ, ◌<◌, ◌≤◌, true, cond, List, [], ◌∷◌, length, Some, None, Option, Result}
+use Rattle.refusals.specs.declared.refusal.Refusal.{Refusal}
 use Rattle.refusals.specs.declared.refusal.Refusal.TheVariants.{LaneFull}
 use Rattle.routes.specs.declared.hop.Hop.{Hop}
 use Rattle.routes.specs.Firsts.{first_of}
 use Rattle.routes.specs.Checks.{unless}
 use Rattle.model.specs.Grid.{Setting, Grid, enqueue, has_room}
-use Rattle.model.specs.Calls.{Answer, done, Outcome, unless_declined, lane_refusal, step_front}
+use Rattle.model.specs.Calls.{Answer, done, moved, out, answer_of, Outcome, unless_declined, lane_refusal, step_front}
 use Rattle.model.specs.Runs.{is_declined}
 use Rattle.model.specs.Slots.{front_arrival, stored}
 use Rattle.lanes.specs.declared.size.Size.{Size}
@@ -49,3 +50,19 @@ pub record Handles {T : Type 0} (l : Lanes) (xs : List T) (o : Outcome T) (arriv
   pub slots : xs' ≡ cond (is_declined a) xs (stored (setting_of l.size (length xs)) (queues_of l xs) arrival xs)
   pub size : l'.size ≡ l.size
   pub declined : is_declined a ≡ true → l' ≡ l
+
+-- The calls: the front of a lane is told, or what declines taking it off; an item comes to the back of a lane; the front of
+-- a lane goes out; the front of a lane goes to the back of another.
+abbrev pub TellsFront : {T : Type 0} → Lanes → List T → Hop → Result (ℕ × T) Refusal → Type 0
+TellsFront l xs h r = answer_of (λ f. out f.0 f.1) r ≡ (popping (setting_of l.size (length xs)) (queues_of l xs) h).answer
+
+abbrev pub Pushes : {T : Type 0} → Lanes → List T → Hop → (ℕ × T) → Result (Unit {0}) Refusal → Lanes → List T → Type 0
+Pushes l xs h item r l' xs' =
+    Handles l xs (pushing (setting_of l.size (length xs)) (queues_of l xs) h item) (Some (h, item.1)) (answer_of (λ _. done) r) l' xs'
+
+abbrev pub Pops : {T : Type 0} → Lanes → List T → Hop → Result (ℕ × T) Refusal → Lanes → Type 0
+Pops l xs h r l' = Handles l xs (popping (setting_of l.size (length xs)) (queues_of l xs) h) None (answer_of (λ f. out f.0 f.1) r) l' xs
+
+abbrev pub Shifts : {T : Type 0} → Lanes → List T → Hop → Hop → Result ℕ Refusal → Lanes → List T → Type 0
+Shifts l xs h to r l' xs' =
+    Handles l xs (moving (setting_of l.size (length xs)) (queues_of l xs) h to) (moving_arrival (queues_of l xs) h to) (answer_of (λ n. moved n) r) l' xs'

@@ -1,10 +1,9 @@
 // The calls on the lanes: each names lanes by hops, and is lent the item slots.
-ghost use Rattle.std.specs.Prelude.{◌≡◌, Some, None, length, MatchResult};
+ghost use Rattle.std.specs.Prelude.{◌≡◌, Some, MatchResult};
 ghost use Rattle.routes.specs.Checks.{no_hop};
-ghost use Rattle.model.specs.Calls.{answer_of, done, moved, out, lane_refusal};
+ghost use Rattle.model.specs.Calls.{lane_refusal};
 ghost use Rattle.lanes.specs.Sizes.{setting_of};
-ghost use Rattle.lanes.specs.Queues.{queues_of};
-ghost use Rattle.lanes.specs.Calls.{Found, pushing, popping, moving, moving_arrival, Handles};
+ghost use Rattle.lanes.specs.Calls.{Found, TellsFront, Pushes, Pops, Shifts};
 
 use crate::tables::Lanes;
 use refusals::refusal::Refusal;
@@ -28,7 +27,7 @@ impl Lanes {
     /// The front of a lane, its stream and the item, which stays. Refuses too few slots by `TooFewSlots`, a link or a lane
     /// that is not there by `OffGrid`, and a lane with no item by `LaneEmpty`.
     pub fn front<T: Copy>(&self, slots: &[T], hop: Hop) -> Result<(u16, T), Refusal>
-        ensures { answer_of (λ f. out f.0 f.1) result ≡ (popping (setting_of self.now.size (length slots.now)) (queues_of self.now slots.now) hop).answer }
+        ensures { TellsFront self.now slots.now hop result }
     {
         let k = self.lane(slots.len(), hop)?;
         if self.rings[k].count == 0 {
@@ -46,7 +45,7 @@ impl Lanes {
         stream: u16,
         item: T,
     ) -> Result<(), Refusal>
-        ensures { Handles self.old slots.old (pushing (setting_of self.old.size (length slots.old)) (queues_of self.old slots.old) hop (stream, item)) (Some (hop, item)) (answer_of (λ _. done) result) self.new slots.new }
+        ensures { Pushes self.old slots.old hop (stream, item) result self.new slots.new }
     {
         let k = self.lane(slots.len(), hop)?;
         if self.rings[k].count >= self.size.depth {
@@ -58,7 +57,7 @@ impl Lanes {
 
     /// Takes the front off a lane and hands it out, its stream and the item. Refuses as `front` does.
     pub fn pop<T: Copy>(&mut self, slots: &[T], hop: Hop) -> Result<(u16, T), Refusal>
-        ensures { Handles self.old slots.now (popping (setting_of self.old.size (length slots.now)) (queues_of self.old slots.now) hop) None (answer_of (λ f. out f.0 f.1) result) self.new slots.now }
+        ensures { Pops self.old slots.now hop result self.new }
     {
         let k = self.lane(slots.len(), hop)?;
         if self.rings[k].count == 0 {
@@ -70,7 +69,7 @@ impl Lanes {
     /// Takes the front off a lane and puts it at the back of another; answers its stream. Refuses as `front` does, a
     /// link or a lane to go to that is not there by `OffGrid`, and a full lane to go to by `Held`.
     pub fn shift<T: Copy>(&mut self, slots: &mut [T], from: Hop, to: Hop) -> Result<u16, Refusal>
-        ensures { Handles self.old slots.old (moving (setting_of self.old.size (length slots.old)) (queues_of self.old slots.old) from to) (moving_arrival (queues_of self.old slots.old) from to) (answer_of (λ n. moved n) result) self.new slots.new }
+        ensures { Shifts self.old slots.old from to result self.new slots.new }
     {
         let k = self.lane(slots.len(), from)?;
         let target = self.lane(slots.len(), to)?;

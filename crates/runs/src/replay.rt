@@ -1,5 +1,5 @@
 // Replaying a list of calls.
-ghost use Rattle.std.specs.Prelude.{◌≡◌, vec_items, MatchResult};
+ghost use Rattle.std.specs.Prelude.{◌≡◌, IfOk, IfErr};
 ghost use Rattle.grid.specs.Blank.{NotMade};
 ghost use Rattle.runs.specs.Runs.{Replays};
 
@@ -33,7 +33,9 @@ pub fn replay<L: Layout + Drop, T: Copy>(
     slots: &mut [T],
     calls: &[Call<T>],
 ) -> Result<Run<L, T>, MakeError>
-    ensures { MatchResult result (λ run. (run.grid.layout ≡ layout) × Replays (L.meaning layout) lanes depth capacity slots.old calls.now (vec_items run.answers) run.grid.tables slots.new) (λ e. NotMade lanes depth capacity e × (slots.new ≡ slots.old)) }
+    ensures run { IfOk result (λ run. Replays (L.meaning layout) lanes depth capacity slots.old calls.now run.answers.items run.grid.tables slots.new) }
+    ensures layout { IfOk result (λ run. run.grid.layout ≡ layout) }
+    ensures refused { IfErr result (λ e. NotMade lanes depth capacity e × (slots.new ≡ slots.old)) }
 {
     // computes nothing: it hands the law to the proof
     law_of_every_run::<T>();

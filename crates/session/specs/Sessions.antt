@@ -6,7 +6,7 @@ use Rattle.layouts.specs.Layout.{Meaning}
 use Rattle.layouts.specs.Links.{InRange}
 use Rattle.layouts.specs.Mesh.{mesh_meaning}
 use Rattle.layouts.specs.declared.turn_rule.TurnRule.{TurnRule}
-use Rattle.routes.specs.Checks.{Terms, no_hop, judgement}
+use Rattle.routes.specs.Checks.{Terms, no_hop, judgement, verdict}
 use Rattle.routes.specs.Routes.{hop_on}
 use Rattle.routes.specs.declared.declined.Declined.{Declined}
 use Rattle.routes.specs.declared.hop.Hop.{Hop}
@@ -47,7 +47,8 @@ refused refusal = Err (failure.Declined (no_hop refusal))
 -- a mesh is made where its size is in range; else the refusal leaves what is at hand
 abbrev pub MakesMesh : Hand → TurnRule → ℕ → ℕ → Response → Hand → Type 0
 MakesMesh before rule w h r after =
-    (InRange w h × (r ≡ Ok (Made (mesh_meaning rule w h).tiles (mesh_meaning rule w h).links)) × (after ≡ record { mesh = Some (mesh_meaning rule w h); grid = before.grid }))
+    (InRange w h × (r ≡ Ok (Made (mesh_meaning rule w h).tiles (mesh_meaning rule w h).links))
+    × (after ≡ record { mesh = Some (mesh_meaning rule w h); grid = before.grid }))
     ⊎ ((InRange w h → ⊥) × (r ≡ refused MeshSize) × (after ≡ before))
 
 -- What a route is judged by on the mesh at hand: 4 lanes and a capacity of 65535, the most that a grid has, and no link
@@ -55,10 +56,10 @@ MakesMesh before rule w h r after =
 abbrev pub unloaded : Meaning → Terms
 unloaded m = record { layout = m; lanes = 4; capacity = 65535; load = λ _. 0 }
 
--- a route is accepted, or declined by a check
-abbrev pub judged : Option Declined → Response
-judged None = Ok Accepted
-judged (Some d) = Err (failure.Declined d)
+-- what a call that has no value answers, where the refusal may tell a hop
+abbrev pub ended : Result (Unit {0}) Declined → Response
+ended (Ok a) = Ok Accepted
+ended (Err d) = Err (failure.Declined d)
 
 -- a question about the mesh at hand
 abbrev pub by_mesh : (Meaning → Response) → Option Meaning → Response
@@ -74,8 +75,8 @@ pub record NewGrid (m : Meaning) (lanes depth capacity : ℕ) (g : GridHand) : T
   pub blank : BlankTables m.links lanes depth capacity g.tables
   pub enough : length g.slots ≡ slot_count g.tables.lanes.size
 
--- A grid is made on a mesh, and both are at hand; or its mesh is refused, or the grid, or there is no memory, and all is as
--- before. Memory has to hold the tables and the slots, so also a grid that nothing declines may find none.
+-- A grid is made on a mesh, and both are at hand; or its mesh is refused, or the grid, or there is no memory, and all is
+-- as before. Memory has to hold the tables and the slots, so also a grid that nothing declines may find none.
 abbrev pub MakesGrid : Hand → TurnRule → ℕ → ℕ → ℕ → ℕ → ℕ → Response → Hand → Type 0
 MakesGrid before rule w h lanes depth capacity r after =
     (InRange w h × ((g : GridHand) × NewGrid (mesh_meaning rule w h) lanes depth capacity g
@@ -93,20 +94,17 @@ abbrev pub OnGrid : (GridHand → Response → GridHand → Type 0) → Option M
 OnGrid Calls mesh None r after = (r ≡ Err (failure.Mistake NoGrid)) × (after ≡ record { mesh = mesh; grid = None })
 OnGrid Calls mesh (Some g) r after = (g' : GridHand) × Calls g r g' × (after ≡ record { mesh = mesh; grid = Some g' })
 
--- what a value answers, or why there is none
+-- what a value answers, or the refusal
 abbrev pub response_by : {A : Type 0} → (A → Answer) → Result A Refusal → Response
 response_by f (Ok a) = Ok (f a)
 response_by f (Err refusal) = refused refusal
 
-abbrev pub ended : Result (Unit {0}) Declined → Response
-ended (Ok a) = Ok Accepted
-ended (Err d) = Err (failure.Declined d)
-
+-- what a step that goes answers
 abbrev pub stepped : Step Strip → Answer
 stepped (step.Moved n) = Moved n
 stepped (step.Out n x) = Out n x
 
--- A call that is lent no slots leaves them.
+-- The calls, each by what it answers and leaves of the grid. One that is lent no slots leaves them.
 abbrev pub Opens : ℕ → Request → List Hop → GridHand → Response → GridHand → Type 0
 Opens n q hops g r g' =
     (a : Result (Unit {0}) Declined) × Edits g.layout g.tables (opens n q hops) (hop_answer a) g'.tables
@@ -131,7 +129,7 @@ Steps h g r g' =
 abbrev pub routed : List Hop → Answer
 routed hops = Route (hops ++ drop (length hops) (replicate 24 (hop_on 0 0))) (length hops)
 
--- what a question about a grid is answered
+-- the questions, each by its answer
 abbrev pub fields : ℕ → GridHand → Response
 fields n g = response_by Fields (fields_of (streams_in g.tables) n)
 
@@ -153,11 +151,12 @@ lanes g = Ok (Drain g.tables.lanes.size.links g.tables.lanes.size.lanes)
 
 -- ---- commands and lines
 
+-- the response to each command, and what is at hand after it
 abbrev pub Answers : Hand → Instruction → Response → Hand → Type 0
 Answers before (command.mesh rule w h) r after = MakesMesh before rule w h r after
 Answers before (command.link k) r after = (r ≡ by_mesh (λ m. Ok (Ends (m.start k) (m.end k))) before.mesh) × (after ≡ before)
 Answers before (command.turn a b) r after = (r ≡ by_mesh (λ m. Ok (Turn (m.turn a b))) before.mesh) × (after ≡ before)
-Answers before (command.judge q hops) r after = (r ≡ by_mesh (λ m. judged (judgement (unloaded m) q hops)) before.mesh) × (after ≡ before)
+Answers before (command.judge q hops) r after = (r ≡ by_mesh (λ m. ended (verdict (judgement (unloaded m) q hops))) before.mesh) × (after ≡ before)
 Answers before (command.grid rule w h lanes depth capacity) r after = MakesGrid before rule w h lanes depth capacity r after
 Answers before (command.opens n q hops) r after = OnGrid (Opens n q hops) before.mesh before.grid r after
 Answers before (command.closes n) r after = OnGrid (Closes n) before.mesh before.grid r after

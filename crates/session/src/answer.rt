@@ -17,7 +17,7 @@ pub enum Answer {
     Ends(u16, u16),
     /// What is told of two links in a row.
     Turn(Turn),
-    /// The route is acceptable, or the call is done.
+    /// The route is acceptable, the grid is made, or the call is done.
     Accepted,
     /// An item of this stream went on to its next hop.
     Moved(u16),

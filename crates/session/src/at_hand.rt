@@ -24,7 +24,7 @@ pub(crate) struct GridAtHand {
     pub(crate) slots: Vec<Strip>,
 }
 
-// So many slots.
+// So many slots, all alike.
 fn blank_slots(heap: Global, count: usize) -> Result<Vec<Strip>, MakeError>
     ensures { MatchResult result (λ slots. length (vec_items slots) ≡ count) (λ e. e ≡ OutOfMemory) }
 {

@@ -45,7 +45,7 @@ impl From<Mistake> for Failure {
     }
 }
 
-/// A grid that is refused is declined; for one that finds no memory that is the mistake.
+/// A grid that is refused is declined; that there is no memory for one is a mistake.
 impl From<MakeError> for Failure {
     ghost from_gives = { λ error result. result ≡ making_failure error };
 

@@ -1,10 +1,10 @@
 // What a script has at hand, and the answers to its lines.
-ghost use Rattle.std.specs.Prelude.{◌≡◌, None};
+ghost use Rattle.std.specs.Prelude.{◌≡◌, Some, None, MatchResult};
 ghost use Rattle.std.specs.Option.{ok_or};
 ghost use Rattle.layouts.specs.Mesh.{meaning_of};
 ghost use Rattle.routes.specs.Checks.{judgement, verdict};
 ghost use Rattle.script.specs.Commands.{instruction_of};
-ghost use Rattle.script.specs.declared.mistake.Mistake.TheVariants.{NoMesh};
+ghost use Rattle.script.specs.declared.mistake.Mistake.TheVariants.{NoMesh, NoGrid};
 ghost use Rattle.session.specs.Hands.{hand_of};
 ghost use Rattle.session.specs.Sessions.{unloaded, Answers, Replies};
 
@@ -61,8 +61,18 @@ impl Session {
         self.mesh.ok_or(Mistake::NoMesh)
     }
 
-    /// The answer to a command. A mesh or a grid that is made takes the place of the one at hand; with a grid its mesh is at
-    /// hand too. A refusal or a mistake leaves all at hand as it was.
+    // The grid at hand.
+    fn grid(&self) -> Result<&GridAtHand, Mistake>
+        ensures { MatchResult result (λ grid. self.now.grid ≡ Some grid.now) (λ m. (self.now.grid ≡ None) × (m ≡ NoGrid)) }
+    {
+        self.grid.as_ref().ok_or(Mistake::NoGrid)
+    }
+
+    /// The answer to a command. A mesh or a grid that is made takes the place of the one at hand; with a grid its mesh is
+    /// at hand too. A refusal or a mistake leaves all at hand as it was.
+    ///
+    /// Refuses what `Mesh::new`, `judge` and the calls of a grid refuse. Where a mesh or a grid is wanted and none is at
+    /// hand, the mistake is `NoMesh` or `NoGrid`; where there is no memory for a grid, it is `OutOfMemory`.
     pub fn answer(&mut self, heap: Global, command: Command) -> Result<Answer, Failure>
         ensures { Answers (hand_of self.old) (instruction_of command) result (hand_of self.new) }
     {
@@ -112,17 +122,17 @@ impl Session {
                 Some(grid) => grid.step(hop),
                 None => Err(Mistake::NoGrid.into()),
             },
-            Command::Stream(stream) => self.grid.as_ref().ok_or(Mistake::NoGrid)?.fields(stream),
-            Command::Route(stream) => self.grid.as_ref().ok_or(Mistake::NoGrid)?.route(stream),
-            Command::LinkLoad(link) => self.grid.as_ref().ok_or(Mistake::NoGrid)?.link_load(link),
-            Command::Count(hop) => self.grid.as_ref().ok_or(Mistake::NoGrid)?.count(hop),
-            Command::Items => Ok(self.grid.as_ref().ok_or(Mistake::NoGrid)?.items()),
-            Command::Drain => Ok(self.grid.as_ref().ok_or(Mistake::NoGrid)?.lanes()),
+            Command::Stream(stream) => self.grid()?.fields(stream),
+            Command::Route(stream) => self.grid()?.route(stream),
+            Command::LinkLoad(link) => self.grid()?.link_load(link),
+            Command::Count(hop) => self.grid()?.count(hop),
+            Command::Items => Ok(self.grid()?.items()),
+            Command::Drain => Ok(self.grid()?.lanes()),
         }
     }
 
-    /// The reply to a line of a script, none where the line has no word. Lines are counted from 1. Where there is no memory
-    /// for what the line says, that is the reply, and all at hand is as it was.
+    /// The reply to a line of a script, none where the line has no word. Lines are counted from 1. Where there is no
+    /// memory for what the line says, that is the reply, and all at hand is as it was.
     pub fn reply(
         &mut self,
         heap: Global,

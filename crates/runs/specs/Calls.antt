@@ -24,6 +24,7 @@ answered (Ok Done) = done
 answered (Ok (Stepped s)) = step_answer s
 answered (Err d) = declined d
 
--- the slots show which stream each item is of: they are enough for all lanes, or no lane contains an item
+-- What tables and slots show is, without the items, the outline: so it is where the slots are enough for all lanes, and where
+-- no lane contains an item.
 abbrev pub Shown : {T : Type 0} → Tables → List T → Type 0
 Shown t slots = without_items (queues_of t.lanes slots) ≡ outline t.lanes

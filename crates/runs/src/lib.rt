@@ -4,3 +4,5 @@
 pub mod call;
 mod make;
 pub mod replay;
+#[cfg(test)]
+mod tests;

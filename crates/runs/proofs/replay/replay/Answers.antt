@@ -1,4 +1,4 @@
-use Rattle.std.proofs.Common.{length, vec_items, ◌∙◌, arith}
+use Rattle.std.proofs.Common.{length, take, vec_items, ◌∙◌, arith}
 use Rattle.model.specs.Runs.{start}
 use Rattle.runs.specs.Runs.{history}
 use Rattle.runs.proofs.Replaying.{made_none, made_more, replays}
@@ -15,14 +15,15 @@ pub loop-k-preserved : goal.loop-k-preserved
 loop-k-preserved g c =
     let so_far = c.loop-k.invariant in
     (c.make.ensures.layout ∙ so_far.0,
-    made_more _ (g.L.Layout.meaning c.args.layout) c.args.slots.now c.args.calls.now c.loop-k.k c.loop-k-test.true (vec_items c.loop-k.answers)
+    made_more _ (g.L.Layout.meaning c.args.layout) _ c.args.slots.now c.args.calls.now c.loop-k.k c.loop-k-test.true (vec_items c.loop-k.answers)
     c.loop-k.grid.tables c.make.new.grid.tables c.loop-k.slots c.make.new.slots so_far.1 c.index-calls-k.result c.index-calls-k.is c.make.result
     (rw so_far.0 at c.make.ensures.made) c.make.ensures.shown)
 
 pub returns-clause-run : goal.returns-clause-run
 returns-clause-run g c =
-    let deep = rw c.in_ok-grid.ensures.made.1.has_depth at c.in_ok-grid.grid.tables.lanes.size.deep.0 in
+    let grid = c.in_ok-grid.ensures.made in
+    let deep = rw grid.1.has_depth at c.in_ok-grid.grid.tables.lanes.size.deep.0 in
     replays (g.L.Layout.meaning c.args.layout) c.args.lanes c.args.depth c.args.capacity c.args.slots.now c.args.calls.now (vec_items c.loop-k.answers)
-    c.loop-k.grid.tables c.loop-k.k c.loop-k.slots c.loop-k-test.false c.loop-k.invariant.1
-    (c.law_of_every_run.ensures _ (g.met.L.Layout.lawful c.args.layout) c.args.lanes c.args.depth c.args.capacity (length c.args.slots.now) deep
-    (history start c.args.calls.now))
+    c.loop-k.grid.tables c.loop-k.k c.loop-k.slots grid.0 c.loop-k-test.false c.loop-k.invariant.1
+    (λ k. c.law_of_every_run.ensures _ (g.met.L.Layout.lawful c.args.layout) c.args.lanes c.args.depth c.args.capacity (length c.args.slots.now) deep
+    (history start (take k c.args.calls.now)))

@@ -7,5 +7,5 @@ use Rattle.runs.proofs.replay.replay.Given as goal
 abbrev pub invariant-loop-k : goal.invariant-loop-k
 invariant-loop-k g l =
     (l.grid.layout ≡ l.fn.layout)
-    × Made (on_layout (g.L.Layout.meaning l.fn.layout) l.fn.lanes l.fn.depth l.fn.capacity (length l.fn.slots)) (g.L.Layout.meaning l.fn.layout) l.fn.slots l.calls l.k
+    × Made (on_layout (g.L.Layout.meaning l.fn.layout) l.fn.lanes l.fn.depth l.fn.capacity (length l.fn.slots)) (g.L.Layout.meaning l.fn.layout) l.fn.capacity l.fn.slots l.calls l.k
     (vec_items l.answers) l.grid.tables l.slots

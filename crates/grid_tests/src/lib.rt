@@ -1,0 +1,5 @@
+// Tests of the grid, in a crate of their own, since each test is proved like any function.
+#![tactic(auto)]
+
+#[cfg(test)]
+mod tests;

@@ -2,13 +2,10 @@
 use Rattle.std.specs.Prelude.{◌≡◌, ℕ, ◌+◌, [], ◌∷◌, map, refl}
 use Rattle.std.proofs.Common.{ap}
 use Rattle.std.proofs.Math.Path.{fun_ext}
-use Rattle.std.proofs.lemmas.List.{length-map}
-use Rattle.routes.specs.declared.hop.Hop.{Hop}
 use Rattle.routes.specs.Loads.{sum_below}
 use Rattle.model.specs.Grid.{Setting, Queue, Grid}
-use Rattle.model.specs.Sums.{queue_sum, grid_sum, one, item_count, one_of, item_count_of}
+use Rattle.model.specs.Sums.{queue_sum, grid_sum, one_of, item_count_of}
 use Rattle.model.specs.Calls.{close_refusal}
-use Rattle.model.specs.Questions.{count_in}
 
 -- a queue, and a grid, with all items alike
 abbrev pub alike : {T : Type 0} → Queue T → Queue (Unit {0})
@@ -36,15 +33,9 @@ unfolding grid_sum
 grid_sum_same_lanes S S' cost contents links lanes = rw (links, lanes)
 
 module _ {T : Type 0} (S : Setting) (g : Grid T) where
-  pub item_count-without_items : item_count S (without_items g) ≡ item_count S g
-  item_count-without_items = grid_sum-without_items S one g
-
-  pub item_count_of-without_items : (n : ℕ) → item_count_of S (without_items g) n ≡ item_count_of S g n
+  item_count_of-without_items : (n : ℕ) → item_count_of S (without_items g) n ≡ item_count_of S g n
   item_count_of-without_items n = grid_sum-without_items S (one_of n) g
 
   pub close_refusal-without_items : (n : ℕ) → close_refusal S (without_items g) n ≡ close_refusal S g n
   unfolding close_refusal
   close_refusal-without_items n = rw (item_count_of-without_items n)
-
-  pub count_in-without_items : (h : Hop) → count_in S (without_items g) h ≡ count_in S g h
-  count_in-without_items h = rw length-map

@@ -1,0 +1,9 @@
+pub mod Chaining
+pub mod CostTables
+pub mod Walking
+pub mod Picking
+pub mod NextRow
+pub mod Filling
+pub mod Tracing
+pub mod Arriving
+pub mod Accepting

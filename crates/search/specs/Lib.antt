@@ -1,0 +1,7 @@
+pub mod Scales
+pub mod ScaleLaws
+pub mod Best
+pub mod Finds
+pub mod Walks
+pub mod Rows
+pub mod Incoming

@@ -1,0 +1,89 @@
+// The search.
+ghost use Rattle.std.specs.Prelude.{◌≡◌, ◌*◌, ◌≤◌, cond, length, Ok, Err};
+ghost use Rattle.std.specs.Result.{result_map_both};
+ghost use Rattle.refusals.specs.declared.refusal.Refusal.TheVariants.{TooFewSlots};
+ghost use Rattle.routes.specs.Routes.{hops_of};
+ghost use Rattle.routes.specs.Checks.{terms_of};
+ghost use Rattle.search.specs.Finds.{enough_scratch, search_refusal, Finds};
+ghost use Rattle.search.specs.Walks.{problem_in, places, FindsWalk};
+
+use crate::costs::costs;
+use crate::incoming::Incoming;
+use crate::measure::Measure;
+use crate::prepared::Prepared;
+use crate::search::Search;
+use layouts::layout::Layout;
+use refusals::refusal::Refusal;
+use routes::declined::Declined;
+use routes::judge::{Limits, judge_fields};
+use routes::route::Route;
+use routes::stream::Request;
+
+/// That the scratch of a search is enough: two values and 24 marks for each lane of each link. Refuses less by `TooFewSlots`.
+pub fn check_scratch(links: u16, lanes: u16, values: usize, marks: usize) -> Result<(), Refusal>
+    ensures { result ≡ cond (enough_scratch links lanes values marks) (Ok tt) (Err TooFewSlots) }
+{
+    let places = links as usize * lanes as usize;
+    if values < 2 * places || marks < 24 * places {
+        return Err(Refusal::TooFewSlots);
+    }
+    Ok(())
+}
+
+impl<L: Layout, M: Measure> Search<'_, L, M> {
+    // The route of a walk that arrives with the fewest hops, and among those of least measure, if any walk of at most 24 hops
+    // arrives.
+    fn best(&self, values: &mut [M::Value], marks: &mut [u16]) -> Option<Route>
+        requires values { 2 * places (problem_in (L.meaning self.now.layout.now) self.now.prepared) ≤ length values.old }
+        requires marks { 24 * places (problem_in (L.meaning self.now.layout.now) self.now.prepared) ≤ length marks.old }
+        ensures { FindsWalk (M.scale self.now.measure.now) (problem_in (L.meaning self.now.layout.now) self.now.prepared) result }
+    {
+        let mut found = None;
+        'rounds: for k in 0..24 {
+            self.round(values, marks, k);
+            if let Some(place) = self.arrival(marks, values, k) {
+                found = Route::new(&self.trace(marks, k, place)[..k + 1]).ok();
+                break 'rounds;
+            }
+        }
+        found
+    }
+}
+
+/// Searches for the best route of a request: one of the acceptable routes with the fewest hops, and among those of least measure.
+/// Which of equally good ones is found, and the scratch afterwards, are left open.
+///
+/// The search goes by rounds: the first finds for each lane of each link whether a walk of one hop ends there, the next one
+/// whether one of two hops does, and so on, with the least value of any such walk; a link may stand twice in a walk. The first
+/// round that reaches the target ends the search, and the route is read back through the marks. There no link stands twice, since
+/// the walk without the hops between would have arrived earlier.
+///
+/// Refuses lanes outside 1 to 4 by `GridSize`, scratch that is too small by `TooFewSlots`, fields by `BadEndpoints` and
+/// `ZeroAmount`, and says `NoRoute` exactly where no route is acceptable.
+pub fn find<L: Layout, M: Measure>(
+    layout: &L,
+    limits: Limits<'_>,
+    request: Request,
+    measure: &M,
+    values: &mut [M::Value],
+    marks: &mut [u16],
+) -> Result<Route, Declined>
+    ensures { let t = terms_of (L.meaning layout.now) limits.entry in Finds (search_refusal t request (length values.old) (length marks.old)) (M.scale measure.now) t request (result_map_both hops_of (λ d. d) result) }
+{
+    if limits.lanes < 1 || limits.lanes > 4 {
+        return Err(Refusal::GridSize.into());
+    }
+    check_scratch(layout.links(), limits.lanes, values.len(), marks.len())?;
+    judge_fields(layout, request)?;
+    let search = Search {
+        layout,
+        measure,
+        prepared: Prepared {
+            request,
+            lanes: limits.lanes,
+            costs: costs(layout, limits, request),
+            incoming: Incoming::of(layout),
+        },
+    };
+    search.best(values, marks).ok_or(Refusal::NoRoute.into())
+}

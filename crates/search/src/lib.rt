@@ -1,0 +1,15 @@
+// The search for a best route: measures, and rounds of hops over links and lanes.
+#![tactic(auto)]
+
+pub mod choice;
+mod costs;
+pub mod find;
+mod incoming;
+pub mod measure;
+pub mod peak;
+mod places;
+mod prepared;
+mod rounds;
+mod search;
+pub mod total;
+mod trace;

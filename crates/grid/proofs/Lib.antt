@@ -3,3 +3,4 @@ pub mod StreamTables
 pub mod Lifted
 pub mod ItemCalls
 pub mod Editing
+pub mod Seeking

@@ -3,3 +3,4 @@ pub mod Views
 pub mod Makes
 pub mod Blank
 pub mod Routes
+pub mod Seeks

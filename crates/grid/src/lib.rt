@@ -7,6 +7,7 @@ mod items;
 pub mod make;
 mod opens;
 mod questions;
+mod seek;
 pub mod step;
 mod streams;
 pub mod tables;

@@ -8,7 +8,7 @@ use layouts::layout::Layout;
 use refusals::refusal::Refusal;
 use routes::declined::Declined;
 use routes::hop::Hop;
-use routes::judge::{Limits, judge};
+use routes::judge::judge;
 use routes::route::Route;
 use routes::stream::{Request, Stream};
 
@@ -17,12 +17,7 @@ impl<L: Layout> Grid<L> {
     fn accepted(&self, request: Request, hops: &[Hop]) -> Result<Route, Declined>
         ensures { Accepts (L.meaning self.now.layout) self.now.tables request hops.now result }
     {
-        let limits = Limits {
-            lanes: self.tables.lanes.size().lanes(),
-            capacity: self.tables.capacity,
-            streams: &self.tables.streams,
-        };
-        judge(&self.layout, limits, request, hops)?;
+        judge(&self.layout, self.tables.limits(), request, hops)?;
         Ok(Route::new(hops)?)
     }
 

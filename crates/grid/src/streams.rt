@@ -13,6 +13,7 @@ ghost use Rattle.grid.specs.Views.{streams_in};
 use crate::tables::Tables;
 use refusals::refusal::Refusal;
 use routes::hop::Hop;
+use routes::judge::Limits;
 use routes::stream::Stream;
 
 // The hop that follows the one over a link. A loop with a word for "the last hop was that one", since no chain of the
@@ -31,6 +32,19 @@ pub(crate) fn next_hop(hops: &[Hop], link: u16) -> Option<Hop>
 }
 
 impl Tables {
+    // What routes are judged by.
+    pub(crate) fn limits(&self) -> Limits<'_>
+        ensures lanes { result.lanes ≡ self.now.lanes.size.lanes }
+        ensures capacity { result.capacity ≡ self.now.capacity }
+        ensures streams { result.streams.now ≡ self.now.streams }
+    {
+        Limits {
+            lanes: self.lanes.size().lanes(),
+            capacity: self.capacity,
+            streams: &self.streams,
+        }
+    }
+
     // The open stream of a number.
     pub(crate) fn stream(&self, stream: u16) -> Result<Stream, Refusal>
         ensures value { result_map_both stream_of (λ e. e) result ≡ open_stream (streams_in self.now) stream }

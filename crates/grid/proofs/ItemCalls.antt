@@ -16,6 +16,7 @@ use Rattle.model.specs.Slots.{first_hop, arrival}
 use Rattle.lanes.specs.Sizes.{holds, slot_count, setting_of}
 use Rattle.lanes.specs.Queues.{queues_of}
 use Rattle.lanes.specs.Calls.{pushing, popping, moving, moving_arrival, Handles}
+use Rattle.lanes.proofs.LaneChecks.{free}
 use Rattle.grid.specs.declared.tables.Tables.{Tables}
 use Rattle.grid.specs.Views.{streams_in, view, setting}
 use Rattle.grid.specs.Makes.{Makes, Starts}
@@ -70,10 +71,6 @@ module _ {T : Type 0} (m : Meaning) (t : Tables) (links : m.links ≡ t.lanes.si
   open_is : (s : OpenStream) (n : ℕ) → open_stream (streams_in t) n ≡ Ok s → streams_in t n ≡ Some s
   open_is s n is = grind (arith, nat_tests)
 
-  free : (h : Hop) → slot_count t.lanes.size ≤ length xs → holds t.lanes.size h ≡ true → lane_refusal SL h ≡ None
-  unfolding lane_refusal
-  free h enough on_grid = grind (arith, nat_tests)
-
   -- a send is a push at the first hop
   pub sending_pushes : (n : ℕ) (x : T) (h : Hop) → slot_count t.lanes.size ≤ length xs → Starts t n h
       → sending S g n x ≡ lift (streams_in t) (pushing SL queues h (n, x))
@@ -81,7 +78,7 @@ module _ {T : Type 0} (m : Meaning) (t : Tables) (links : m.links ≡ t.lanes.si
   sending_pushes n x h enough starts =
       let yes : enough_slots SL ≡ true = grind (arith, nat_tests) in
       let route : route_of (streams_in t n) ≡ h ∷ starts.rest = ap route_of (open_is _ n starts.stream) in
-      rw (enough_is, yes, starts.stream, route, free h enough starts.on_grid)
+      rw (enough_is, yes, starts.stream, route, free t.lanes.size (length xs) h enough starts.on_grid)
       (lift-unless_declined (streams_in t) (first_of (unless (has_room SL queues h) LaneFull ∷ [])) queues (record { answer = done; grid = enqueue SL queues h (n, x) }))
 
   pub sending_arrival : (n : ℕ) (x : T) (h : Hop) → Starts t n h → arrival g (sends n x) ≡ Some (h, x)

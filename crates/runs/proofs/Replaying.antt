@@ -1,119 +1,191 @@
 -- A replay, call by call.
-use Rattle.std.proofs.Common.{◌≡◌, ℕ, ◌+◌, ◌<◌, ◌≤◌, List, [], ◌∷◌, ◌++◌, map, length, length-set, get_or, take, set, None, Result, sym, refl, ap, ◌∙◌, arith}
+use Rattle.std.proofs.Common.{◌≡◌, ℕ, ◌+◌, ◌<◌, ◌≤◌, List, [], ◌∷◌, ◌++◌, length, length-set, get_or, take, set, Ok, Err, Result, vec_items, sym, refl, ap, ◌∙◌, subst, arith}
 use Rattle.std.proofs.Math.Path.{fun_ext}
-use Rattle.std.proofs.lemmas.List.{take_all, take_more, take_more_set, map-append}
-use Rattle.layouts.specs.Layout.{Meaning}
+use Rattle.std.proofs.lemmas.List.{take_all, take_more, take_more_set}
 use Rattle.routes.specs.declared.declined.Declined.{Declined}
+use Rattle.routes.specs.declared.hop.Hop.{Hop}
+use Rattle.routes.specs.declared.stream.Request.{Request}
 use Rattle.model.specs.Grid.{Setting}
-use Rattle.model.specs.Calls.{outcome}
+use Rattle.model.specs.Calls.{Call as GridCall, opens, closes, sends, steps, Answer, done, outcome}
 use Rattle.model.specs.Layouts.{on_layout}
-use Rattle.model.specs.Runs.{History, start, ◌▸◌, after, answer_to}
+use Rattle.model.specs.Runs.{History, start, ◌▸◌, after}
 use Rattle.model.specs.Slots.{slots_after, slots_left}
 use Rattle.model.specs.Outlines.{without_items}
 use Rattle.model.specs.Law.{Keeps}
+use Rattle.search.specs.Scales.{Scale}
 use Rattle.lanes.specs.Blanks.{blank_queues}
 use Rattle.grid.specs.declared.tables.Tables.{Tables}
 use Rattle.grid.specs.Views.{streams_in, with_streams, view, slots_alike, outline, setting}
-use Rattle.grid.specs.Makes.{Makes}
-use Rattle.grid.specs.Blank.{making_refusal, BlankTables}
+use Rattle.grid.specs.Makes.{Same, Makes}
+use Rattle.grid.specs.Blank.{BlankTables}
+use Rattle.grid.specs.Seeks.{SeekFinds}
 use Rattle.runs.specs.declared.call.Call.{Call}
+use Rattle.runs.specs.declared.call.Call.TheVariants.{Open, Seek, Close, Send, Step}
 use Rattle.runs.specs.declared.call.Reply.{Reply}
-use Rattle.runs.specs.Calls.{asked, answered, Shown}
-use Rattle.runs.specs.Runs.{history, answers_to, LeftBy, Replays}
+use Rattle.runs.specs.declared.call.Reply.TheVariants.{Done, Found, Stepped}
+use Rattle.runs.specs.Calls.{reply, Shown, Answers, Searches, MakesCall}
+use Rattle.runs.specs.Runs.{Conditions, setting_of, Follows, CallFollows, Leads, LeftBy}
 use Rattle.runs.proofs.Showing.{length-slots_after}
-
--- ---- one call more
-
-history-snoc : {T : Type 0} (past : History T) (calls : List (Call T)) (c : Call T) → history past (calls ++ (c ∷ [])) ≡ history past calls ▸ asked c
-history-snoc past [] c = refl
-history-snoc past (d ∷ calls) c = history-snoc (past ▸ asked d) calls c
-
-answers_to-snoc : {T : Type 0} (S : Setting) (past : History T) (calls : List (Call T)) (c : Call T)
-    → answers_to S past (calls ++ (c ∷ [])) ≡ answers_to S past calls ++ (answer_to S (history past calls) (asked c) ∷ [])
-answers_to-snoc S past [] c = refl
-answers_to-snoc S past (d ∷ calls) c = ap (λ l. answer_to S past (asked d) ∷ l) (answers_to-snoc S (past ▸ asked d) calls c)
 
 -- slots that show the items show the outline
 outlined : {T : Type 0} (t : Tables) (xs : List T) → Shown t xs → outline t ≡ without_items (view t xs)
 outlined t xs shown = ap (with_streams (streams_in t)) (sym shown)
 
--- ---- the calls made so far
+module _ {M V : Type 0} (R : Conditions M V) where
+  abbrev S : Setting
+  S = setting_of R
 
--- After k calls, the grid and the slots are what their history leaves, and the answers to them are written.
-pub record Made {T : Type 0} (S : Setting) (m : Meaning) (capacity : ℕ) (xs : List T) (calls : List (Call T)) (k : ℕ) (answers : List (Result (Reply T) Declined)) (t : Tables) (xs' : List T) : Type 0 where
-  pub set_so : setting m t (length xs') ≡ S
-  pub has_capacity : t.capacity ≡ capacity
-  pub room : length answers ≡ length calls
-  pub shown : Shown t xs'
-  pub answers_are : map answered (take k answers) ≡ answers_to S start (take k calls)
-  pub leaves : LeftBy S (history start (take k calls)) xs t xs'
+module _ {M V T : Type 0} (R : Conditions M V) where
+  -- one call more, where the law holds of every history
+  pub leads_more : ((past : History T) → Keeps (S R) past) → (past : History T) (calls : List (Call T M)) (answers : List (Result (Reply T) Declined)) (so_far : History T) (c : Call T M)
+      (r : Result (Reply T) Declined) (next : History T) → Leads R past calls answers so_far → CallFollows R so_far c r next → Leads R past (calls ++ (c ∷ [])) (answers ++ (r ∷ [])) next
+  leads_more law past [] [] so_far c r next leads follows = (law past, (next, subst (λ p. CallFollows R p c r next) leads.1 follows, (law next, refl)))
+  leads_more law past [] (a ∷ answers) so_far c r next leads follows = absurd leads
+  leads_more law past (d ∷ calls) [] so_far c r next leads follows = absurd leads
+  leads_more law past (d ∷ calls) (a ∷ answers) so_far c r next leads follows =
+      (leads.0, (leads.1.0, leads.1.1, leads_more law leads.1.0 calls answers so_far c r next leads.1.2 follows))
 
-module _ {T : Type 0} (S : Setting) (m : Meaning) (capacity : ℕ) (xs : List T) (calls : List (Call T)) (k : ℕ) (less : k < length calls) (answers : List (Result (Reply T) Declined))
-    (t t' : Tables) (xs' xs'' : List T) (made : Made S m capacity xs calls k answers t xs') (c : Call T) (is : c ≡ get_or calls k c) (a : Result (Reply T) Declined)
-    (makes : Makes m t xs' (asked c) (answered a) t' xs'') (shown : Shown t' xs'') where
-  abbrev past : History T
-  past = history start (take k calls)
+  -- ---- what is left after a past
 
-  more : take (k + 1) calls ≡ take k calls ++ (c ∷ [])
-  more = take_more calls k c less ∙ ap (λ d. take k calls ++ (d ∷ [])) (sym is)
+  -- Tables and slots are what the calls of a past leave, on a grid of these conditions.
+  pub record Left (past : History T) (xs : List T) (t : Tables) (xs' : List T) : Type 0 where
+    pub set_so : setting R.layout t (length xs') ≡ S R
+    pub has_capacity : t.capacity ≡ R.capacity
+    pub leaves : LeftBy (S R) past xs t xs'
 
-  one_more : history start (take (k + 1) calls) ≡ past ▸ asked c
-  one_more = ap (history start) more ∙ history-snoc start (take k calls) c
+  module _ (past : History T) (xs xs' xs'' : List T) (t t' : Tables) (left : Left past xs t xs') where
+    -- the streams that are open, and the lanes
+    streams_are : streams_in t ≡ (after (S R) past).streams
+    streams_are = ap (λ g. g.streams) left.leaves.grid
 
-  -- the call is one on the grid that the history leaves
-  outcome_is : outcome (setting m t (length xs')) (view t xs') (asked c) ≡ outcome S (after S past) (asked c)
-  outcome_is = rw (made.set_so, made.leaves.grid) refl
+    lanes_are : t.lanes.size.lanes ≡ R.lanes
+    lanes_are = ap (λ s. s.lanes) left.set_so
 
-  slots_are : slots_after (setting m t (length xs')) (view t xs') (asked c) xs' ≡ slots_after S (after S past) (asked c) (slots_left S past xs)
-  slots_are = rw (made.set_so, made.leaves.grid) (ap (slots_after S (after S past) (asked c)) made.leaves.slots)
+    module _ (c : GridCall T) (a : Answer T) (makes : Makes R.layout t xs' c a t' xs'') (shown : Shown t' xs'') where
+      -- the call is one on the grid that the past leaves
+      outcome_is : outcome (setting R.layout t (length xs')) (view t xs') c ≡ outcome (S R) (after (S R) past) c
+      outcome_is = rw (left.set_so, left.leaves.grid) refl
 
-  long : length xs'' ≡ length xs'
-  long = ap length makes.slots ∙ length-slots_after (setting m t (length xs')) (view t xs') (asked c) xs'
+      slots_are : slots_after (setting R.layout t (length xs')) (view t xs') c xs' ≡ slots_after (S R) (after (S R) past) c (slots_left (S R) past xs)
+      slots_are = rw (left.set_so, left.leaves.grid) (ap (slots_after (S R) (after (S R) past) c) left.leaves.slots)
 
-  pub made_more : Made S m capacity xs calls (k + 1) (set answers k a) t' xs''
-  made_more = record {
-    set_so = ap (λ s. on_layout m s.lanes s.depth t'.capacity (length xs'')) makes.size ∙ rw (makes.capacity, long) made.set_so;
-    has_capacity = makes.capacity ∙ made.has_capacity;
-    room = length-set answers k a ∙ made.room;
-    shown = shown;
-    answers_are =
-        rw (take_more_set answers k a (omega (arith, made.room)), map-append, more, answers_to-snoc S start (take k calls) c, made.answers_are)
-        (ap (λ x. answers_to S start (take k calls) ++ (x ∷ [])) (makes.answer ∙ ap (λ o. o.answer) outcome_is));
-    leaves = rw one_more (record {
-      grid = makes.grid ∙ ap (λ o. o.grid) outcome_is;
-      outline = outlined t' xs'' shown ∙ ap without_items (makes.grid ∙ ap (λ o. o.grid) outcome_is);
-      slots = makes.slots ∙ slots_are;
-    });
-  }
+      long : length xs'' ≡ length xs'
+      long = ap length makes.slots ∙ length-slots_after (setting R.layout t (length xs')) (view t xs') c xs'
 
--- ---- ahead of the first call, and behind the last
+      pub answer_is : a ≡ (outcome (S R) (after (S R) past) c).answer
+      answer_is = makes.answer ∙ ap (λ o. o.answer) outcome_is
 
-module _ {T : Type 0} (m : Meaning) (lanes depth capacity : ℕ) (xs : List T) (calls : List (Call T)) (answers : List (Result (Reply T) Declined)) (t : Tables) where
-  pub made_none : BlankTables m.links lanes depth capacity t → length answers ≡ length calls → Made (on_layout m lanes depth capacity (length xs)) m capacity xs calls 0 answers t xs
-  made_none is_blank room = record {
-    set_so = rw (is_blank.has_lanes, is_blank.has_depth, is_blank.has_capacity) refl;
-    has_capacity = is_blank.has_capacity;
-    room = room;
-    shown = ap without_items (blank_queues t.lanes is_blank.no_item xs) ∙ sym (blank_queues t.lanes is_blank.no_item (slots_alike t));
-    answers_are = refl;
-    leaves = record {
-      grid = rw (fun_ext is_blank.no_stream, blank_queues t.lanes is_blank.no_item xs) refl;
-      outline = rw (fun_ext is_blank.no_stream, blank_queues t.lanes is_blank.no_item (slots_alike t)) refl;
-      slots = refl;
-    };
-  }
+      grid_is : view t' xs'' ≡ after (S R) (past ▸ c)
+      grid_is = makes.grid ∙ ap (λ o. o.grid) outcome_is
 
-  pub replays : (k : ℕ) (xs' : List T) → making_refusal lanes depth capacity ≡ None → length calls ≤ k → Made (on_layout m lanes depth capacity (length xs)) m capacity xs calls k answers t xs'
-      → ((j : ℕ) → Keeps (on_layout m lanes depth capacity (length xs)) (history start (take j calls))) → Replays m lanes depth capacity xs calls answers t xs'
-  replays k xs' makes all made law =
-      let all_calls : take k calls ≡ calls = take_all k calls all in
-      let all_answers : take k answers ≡ answers = take_all k answers (omega (arith, made.room)) in
-      record {
-        makes = makes;
-        has_lanes = ap (λ s. s.lanes) made.set_so;
-        has_depth = ap (λ s. s.depth) made.set_so;
-        has_capacity = made.has_capacity;
-        answers_are = rw (all_calls, all_answers) at made.answers_are;
-        leaves = rw all_calls at made.leaves;
-        law = law;
+      pub left_more : Left (past ▸ c) xs t' xs''
+      left_more = record {
+        set_so = ap (λ s. on_layout R.layout s.lanes s.depth t'.capacity (length xs'')) makes.size ∙ rw (makes.capacity, long) left.set_so;
+        has_capacity = makes.capacity ∙ left.has_capacity;
+        leaves = record { grid = grid_is; outline = outlined t' xs'' shown ∙ ap without_items grid_is; slots = makes.slots ∙ slots_are };
       }
+
+    -- a call that changes nothing leaves what was left
+    pub left_same : Same t t' → xs'' ≡ xs' → Left past xs t' xs''
+    left_same same slots = record {
+      set_so = rw (slots, same.lanes, same.capacity) left.set_so;
+      has_capacity = same.capacity ∙ left.has_capacity;
+      leaves = record {
+        grid = rw (slots, same.lanes, same.streams) left.leaves.grid;
+        outline = rw (same.lanes, same.streams) left.leaves.outline;
+        slots = slots ∙ left.leaves.slots;
+      };
+    }
+
+    -- ---- one call more
+
+    -- the history of one call more, and what it leaves
+    pub record OneMore (c : Call T M) (r : Result (Reply T) Declined) : Type 0 where
+      pub next : History T
+      pub follows : CallFollows R past c r next
+      pub remains : Left next xs t' xs''
+
+    answered : (c : Call T M) (asked : GridCall T) (r : Result (Reply T) Declined) → ((next : History T) → Follows R past asked r next → CallFollows R past c r next)
+        → Answers R.layout t xs' asked r t' xs'' → Shown t' xs'' → OneMore c r
+    answered c asked r follows makes shown = record {
+      next = past ▸ asked;
+      follows = follows (past ▸ asked) (makes.2 ∙ ap reply (answer_is asked makes.0 makes.1 shown), refl);
+      remains = left_more asked makes.0 makes.1 shown;
+    }
+
+    finds : {W : Type 0} (s : Scale W) (n : ℕ) (q : Request) (values marks : ℕ) (r : Result (List Hop) Declined)
+        → SeekFinds s R.layout t.lanes.size.lanes t.capacity (streams_in t) n q values marks r → SeekFinds s R.layout R.lanes R.capacity (after (S R) past).streams n q values marks r
+    finds s n q values marks r found =
+        subst (λ streams. SeekFinds s R.layout R.lanes R.capacity streams n q values marks r) streams_are (rw (lanes_are, left.has_capacity) at found)
+
+    searched : (n : ℕ) (q : Request) (measure : M) (r : Result (Reply T) Declined) → Searches (R.scale measure) R.values R.marks R.layout t xs' n q r t' xs'' → Shown t' xs''
+        → OneMore (Seek n q measure) r
+    searched n q measure (Ok Done) makes shown = absurd makes
+    searched n q measure (Ok (Stepped s)) makes shown = absurd makes
+    searched n q measure (Ok (Found count)) makes shown = record {
+      next = past ▸ opens n q makes.0;
+      follows = (makes.0, makes.1, finds (R.scale measure) n q R.values R.marks (Ok makes.0) makes.2, refl);
+      remains = left_more (opens n q makes.0) done makes.3 shown;
+    }
+    searched n q measure (Err d) makes shown = record {
+      next = past;
+      follows = (finds (R.scale measure) n q R.values R.marks (Err d) makes.0, refl);
+      remains = left_same makes.1 makes.2;
+    }
+
+    pub one_more : (c : Call T M) (r : Result (Reply T) Declined) → MakesCall R.scale R.values R.marks R.layout t xs' c r t' xs'' → Shown t' xs'' → OneMore c r
+    one_more (Open n q hops) r makes shown = answered (Open n q hops) (opens n q (vec_items hops)) r (λ next follows. follows) makes shown
+    one_more (Seek n q measure) r makes shown = searched n q measure r makes shown
+    one_more (Close n) r makes shown = answered (Close n) (closes n) r (λ next follows. follows) makes shown
+    one_more (Send n x) r makes shown = answered (Send n x) (sends n x) r (λ next follows. follows) makes shown
+    one_more (Step h) r makes shown = answered (Step h) (steps h.link h.lane) r (λ next follows. follows) makes shown
+
+  -- ---- the calls made so far
+
+  -- After k calls, the grid and the slots are what their history leaves, and the answers to them are written.
+  pub record Made (xs : List T) (calls : List (Call T M)) (k : ℕ) (answers : List (Result (Reply T) Declined)) (t : Tables) (xs' : List T) : Type 0 where
+    pub history : History T
+    pub room : length answers ≡ length calls
+    pub shown : Shown t xs'
+    pub run : Leads R start (take k calls) (take k answers) history
+    pub left : Left history xs t xs'
+
+  module _ (xs : List T) (calls : List (Call T M)) (answers : List (Result (Reply T) Declined)) (t : Tables) where
+    pub made_none : ((past : History T) → Keeps (S R) past) → R.slots ≡ length xs → BlankTables R.layout.links R.lanes R.depth R.capacity t → length answers ≡ length calls → Made xs calls 0 answers t xs
+    made_none law slots is_blank room = record {
+      history = start;
+      room = room;
+      shown = ap without_items (blank_queues t.lanes is_blank.no_item xs) ∙ sym (blank_queues t.lanes is_blank.no_item (slots_alike t));
+      run = (law start, refl);
+      left = record {
+        set_so = rw (is_blank.has_lanes, is_blank.has_depth, is_blank.has_capacity, slots) refl;
+        has_capacity = is_blank.has_capacity;
+        leaves = record {
+          grid = rw (fun_ext is_blank.no_stream, blank_queues t.lanes is_blank.no_item xs) refl;
+          outline = rw (fun_ext is_blank.no_stream, blank_queues t.lanes is_blank.no_item (slots_alike t)) refl;
+          slots = refl;
+        };
+      };
+    }
+
+    module _ (k : ℕ) (less : k < length calls) (t' : Tables) (xs' xs'' : List T) (made : Made xs calls k answers t xs') (c : Call T M) (is : c ≡ get_or calls k c)
+        (r : Result (Reply T) Declined) (makes : MakesCall R.scale R.values R.marks R.layout t xs' c r t' xs'') (shown : Shown t' xs'') where
+      more : take (k + 1) calls ≡ take k calls ++ (c ∷ [])
+      more = take_more calls k c less ∙ ap (λ d. take k calls ++ (d ∷ [])) (sym is)
+
+      pub made_more : ((past : History T) → Keeps (S R) past) → Made xs calls (k + 1) (set answers k r) t' xs''
+      made_more law =
+          let last = one_more made.history xs xs' xs'' t t' made.left c r makes shown in
+          record {
+            history = last.next;
+            room = length-set answers k r ∙ made.room;
+            shown = shown;
+            run = rw (more, take_more_set answers k r (omega (arith, made.room))) (leads_more law start (take k calls) (take k answers) made.history c r last.next made.run last.follows);
+            left = last.remains;
+          }
+
+    pub all_made : (k : ℕ) (xs' : List T) → length calls ≤ k → (made : Made xs calls k answers t xs') → Leads R start calls answers made.history
+    all_made k xs' all made =
+        let all_calls : take k calls ≡ calls = take_all k calls all in
+        let all_answers : take k answers ≡ answers = take_all k answers (omega (arith, made.room)) in
+        rw (all_calls, all_answers) at made.run

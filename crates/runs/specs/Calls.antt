@@ -1,30 +1,52 @@
 -- Calls and answers as those of the grid in words.
-use Rattle.std.specs.Prelude.{◌≡◌, List, Ok, Err, Result, vec_items}
+use Rattle.std.specs.Prelude.{◌≡◌, ℕ, List, length, Ok, Err, Result, vec_items}
+use Rattle.layouts.specs.Layout.{Meaning}
 use Rattle.routes.specs.declared.declined.Declined.{Declined}
-use Rattle.model.specs.Calls.{Call as GridCall, opens, closes, sends, steps, Answer, declined, done}
+use Rattle.routes.specs.declared.hop.Hop.{Hop}
+use Rattle.routes.specs.declared.stream.Request.{Request}
+use Rattle.model.specs.Calls.{Call as GridCall, opens, closes, sends, steps, Answer, declined, done, moved, out}
 use Rattle.model.specs.Outlines.{without_items}
+use Rattle.search.specs.Scales.{Scale}
 use Rattle.lanes.specs.Queues.{queues_of, outline}
+use Rattle.grid.specs.declared.step.Step.TheVariants.{Moved, Out}
 use Rattle.grid.specs.declared.tables.Tables.{Tables}
-use Rattle.grid.specs.Makes.{step_answer}
+use Rattle.grid.specs.Views.{streams_in}
+use Rattle.grid.specs.Makes.{Same, Makes}
+use Rattle.grid.specs.Seeks.{SeekFinds}
 use Rattle.runs.specs.declared.call.Call.{Call}
-use Rattle.runs.specs.declared.call.Call.TheVariants.{Open, Close, Send, Step}
+use Rattle.runs.specs.declared.call.Call.TheVariants.{Open, Seek, Close, Send, Step}
 use Rattle.runs.specs.declared.call.Reply.{Reply}
-use Rattle.runs.specs.declared.call.Reply.TheVariants.{Done, Stepped}
+use Rattle.runs.specs.declared.call.Reply.TheVariants.{Done, Found, Stepped}
 
--- what a call asks of the grid
-abbrev pub asked : {T : Type 0} → Call T → GridCall T
-asked (Open n q hops) = opens n q (vec_items hops)
-asked (Close n) = closes n
-asked (Send n x) = sends n x
-asked (Step h) = steps h.link h.lane
-
--- what an answer tells
-abbrev pub answered : {T : Type 0} → Result (Reply T) Declined → Answer T
-answered (Ok Done) = done
-answered (Ok (Stepped s)) = step_answer s
-answered (Err d) = declined d
+-- the answer to a call of the grid in words
+abbrev pub reply : {T : Type 0} → Answer T → Result (Reply T) Declined
+reply (declined d) = Err d
+reply done = Ok Done
+reply (moved n) = Ok (Stepped (Moved n))
+reply (out n x) = Ok (Stepped (Out n x))
 
 -- What tables and slots show is, without the items, the outline: so it is where the slots are enough for all lanes, and where
 -- no lane contains an item.
 abbrev pub Shown : {T : Type 0} → Tables → List T → Type 0
 Shown t slots = without_items (queues_of t.lanes slots) ≡ outline t.lanes
+
+-- a call of the grid in words is made and answered so
+abbrev pub Answers : {T : Type 0} → Meaning → Tables → List T → GridCall T → Result (Reply T) Declined → Tables → List T → Type 0
+Answers {T} m t xs c r t' xs' = (a : Answer T) × Makes m t xs c a t' xs' × (r ≡ reply a)
+
+-- A seek, with so much scratch lent, opens a stream on the route that it finds, or changes nothing.
+abbrev pub Searches : {T V : Type 0} → Scale V → ℕ → ℕ → Meaning → Tables → List T → ℕ → Request → Result (Reply T) Declined → Tables → List T → Type 0
+Searches s values marks m t xs n q (Ok Done) t' xs' = ⊥
+Searches s values marks m t xs n q (Ok (Found count)) t' xs' =
+    (hops : List Hop) × (count ≡ length hops) × SeekFinds s m t.lanes.size.lanes t.capacity (streams_in t) n q values marks (Ok hops) × Makes m t xs (opens n q hops) done t' xs'
+Searches s values marks m t xs n q (Ok (Stepped step)) t' xs' = ⊥
+Searches s values marks m t xs n q (Err d) t' xs' =
+    SeekFinds s m t.lanes.size.lanes t.capacity (streams_in t) n q values marks (Err d) × Same t t' × (xs' ≡ xs)
+
+-- each call, where measures count in these scales
+abbrev pub MakesCall : {T V M : Type 0} → (M → Scale V) → ℕ → ℕ → Meaning → Tables → List T → Call T M → Result (Reply T) Declined → Tables → List T → Type 0
+MakesCall scale values marks m t xs (Open n q hops) r t' xs' = Answers m t xs (opens n q (vec_items hops)) r t' xs'
+MakesCall scale values marks m t xs (Seek n q measure) r t' xs' = Searches (scale measure) values marks m t xs n q r t' xs'
+MakesCall scale values marks m t xs (Close n) r t' xs' = Answers m t xs (closes n) r t' xs'
+MakesCall scale values marks m t xs (Send n x) r t' xs' = Answers m t xs (sends n x) r t' xs'
+MakesCall scale values marks m t xs (Step h) r t' xs' = Answers m t xs (steps h.link h.lane) r t' xs'

@@ -1,30 +1,83 @@
 -- What a list of calls on a grid that starts blank answers and leaves.
-use Rattle.std.specs.Prelude.{◌≡◌, ℕ, List, [], ◌∷◌, map, length, take, None, Result}
+use Rattle.std.specs.Prelude.{◌≡◌, ℕ, List, [], ◌∷◌, length, None, Ok, Err, Result, vec_items}
 use Rattle.layouts.specs.Layout.{Meaning}
 use Rattle.routes.specs.declared.declined.Declined.{Declined}
+use Rattle.routes.specs.declared.hop.Hop.{Hop}
+use Rattle.routes.specs.declared.stream.Request.{Request}
 use Rattle.model.specs.Grid.{Setting}
-use Rattle.model.specs.Calls.{Answer}
+use Rattle.model.specs.Calls.{Call as GridCall, opens, closes, sends, steps}
 use Rattle.model.specs.Layouts.{on_layout}
 use Rattle.model.specs.Runs.{History, start, ◌▸◌, after, answer_to}
 use Rattle.model.specs.Outlines.{without_items}
 use Rattle.model.specs.Slots.{slots_left}
 use Rattle.model.specs.Law.{Keeps}
+use Rattle.search.specs.Scales.{Scale}
 use Rattle.grid.specs.declared.tables.Tables.{Tables}
 use Rattle.grid.specs.Blank.{making_refusal}
+use Rattle.grid.specs.Seeks.{SeekFinds}
 use Rattle.grid.specs.Views.{view, outline}
 use Rattle.runs.specs.declared.call.Call.{Call}
+use Rattle.runs.specs.declared.call.Call.TheVariants.{Open, Seek, Close, Send, Step}
 use Rattle.runs.specs.declared.call.Reply.{Reply}
-use Rattle.runs.specs.Calls.{asked, answered}
+use Rattle.runs.specs.declared.call.Reply.TheVariants.{Done, Found, Stepped}
+use Rattle.runs.specs.Calls.{reply}
 
--- the history of some calls, made after those of a past
-abbrev pub history : {T : Type 0} → History T → List (Call T) → History T
-history past [] = past
-history past (c ∷ calls) = history (past ▸ asked c) calls
+-- The conditions of a run: the layout and the sizes of the grid, how many slots, measure values and marks are lent, and what
+-- the measures of its seeks count in.
+pub record Conditions (M V : Type 0) : Type 0 where
+  pub layout : Meaning
+  pub lanes : ℕ
+  pub depth : ℕ
+  pub capacity : ℕ
+  pub slots : ℕ
+  pub values : ℕ
+  pub marks : ℕ
+  pub scale : M → Scale V
 
--- the answers to calls made one after another
-abbrev pub answers_to : {T : Type 0} → Setting → History T → List (Call T) → List (Answer T)
-answers_to S past [] = []
-answers_to S past (c ∷ calls) = answer_to S past (asked c) ∷ answers_to S (past ▸ asked c) calls
+abbrev pub conditions : {M V : Type 0} → Meaning → ℕ → ℕ → ℕ → ℕ → ℕ → ℕ → (M → Scale V) → Conditions M V
+conditions m lanes depth capacity slots values marks scale = record {
+  layout = m;
+  lanes = lanes;
+  depth = depth;
+  capacity = capacity;
+  slots = slots;
+  values = values;
+  marks = marks;
+  scale = scale;
+}
+
+abbrev pub setting_of : {M V : Type 0} → Conditions M V → Setting
+setting_of R = on_layout R.layout R.lanes R.depth R.capacity R.slots
+
+-- a call of the grid in words, made after those of a past, is answered so, and is then part of the past
+abbrev pub Follows : {M V T : Type 0} → Conditions M V → History T → GridCall T → Result (Reply T) Declined → History T → Type 0
+Follows R past c r next = (r ≡ reply (answer_to (setting_of R) past c)) × (next ≡ past ▸ c)
+
+-- What a seek answers after a past. One that is not declined is the opening of the stream on the route that it finds, a best one; one
+-- that is declined has not been.
+abbrev pub SeekFollows : {M V T : Type 0} → Conditions M V → Scale V → History T → ℕ → Request → Result (Reply T) Declined → History T → Type 0
+SeekFollows R s past n q (Ok Done) next = ⊥
+SeekFollows R s past n q (Ok (Found count)) next =
+    (hops : List Hop) × (count ≡ length hops) × SeekFinds s R.layout R.lanes R.capacity (after (setting_of R) past).streams n q R.values R.marks (Ok hops) × (next ≡ past ▸ opens n q hops)
+SeekFollows R s past n q (Ok (Stepped step)) next = ⊥
+SeekFollows R s past n q (Err d) next =
+    SeekFinds s R.layout R.lanes R.capacity (after (setting_of R) past).streams n q R.values R.marks (Err d) × (next ≡ past)
+
+-- what each call answers after a past, and the past of the next call
+abbrev pub CallFollows : {M V T : Type 0} → Conditions M V → History T → Call T M → Result (Reply T) Declined → History T → Type 0
+CallFollows R past (Open n q hops) r next = Follows R past (opens n q (vec_items hops)) r next
+CallFollows R past (Seek n q measure) r next = SeekFollows R (R.scale measure) past n q r next
+CallFollows R past (Close n) r next = Follows R past (closes n) r next
+CallFollows R past (Send n x) r next = Follows R past (sends n x) r next
+CallFollows R past (Step h) r next = Follows R past (steps h.link h.lane) r next
+
+-- Calls made one after another after a past are answered so, and lead to an end; and the whole law of every run holds before
+-- and after each of them, and so at every close.
+abbrev pub Leads : {M V T : Type 0} → Conditions M V → History T → List (Call T M) → List (Result (Reply T) Declined) → History T → Type 0
+Leads R past [] [] end = Keeps (setting_of R) past × (end ≡ past)
+Leads R past [] (r ∷ answers) end = ⊥
+Leads R past (c ∷ calls) [] end = ⊥
+Leads {M} {V} {T} R past (c ∷ calls) (r ∷ answers) end = Keeps (setting_of R) past × ((next : History T) × CallFollows R past c r next × Leads R next calls answers end)
 
 -- What the calls of a past leave of a blank grid and of the slots: the grid in words; its outline, which the tables tell also
 -- where the slots are too few to show it; and each slot.
@@ -33,14 +86,14 @@ pub record LeftBy {T : Type 0} (S : Setting) (past : History T) (xs : List T) (t
   pub outline : outline t ≡ without_items (after S past)
   pub slots : xs' ≡ slots_left S past xs
 
--- Calls made one after another, on a grid that starts blank on a layout of this meaning, are answered by their history and
--- leave what it leaves; nothing declines the making of that grid, and it has the size and the capacity that were asked for;
--- and the whole law of every run holds after each of the calls, and so at every close.
-pub record Replays {T : Type 0} (m : Meaning) (lanes depth capacity : ℕ) (xs : List T) (calls : List (Call T)) (answers : List (Result (Reply T) Declined)) (t : Tables) (xs' : List T) : Type 0 where
-  pub makes : making_refusal lanes depth capacity ≡ None
-  pub has_lanes : t.lanes.size.lanes ≡ lanes
-  pub has_depth : t.lanes.size.depth ≡ depth
-  pub has_capacity : t.capacity ≡ capacity
-  pub answers_are : map answered answers ≡ answers_to (on_layout m lanes depth capacity (length xs)) start calls
-  pub leaves : LeftBy (on_layout m lanes depth capacity (length xs)) (history start calls) xs t xs'
-  pub law : (k : ℕ) → Keeps (on_layout m lanes depth capacity (length xs)) (history start (take k calls))
+-- Calls made one after another, on a grid that starts blank, are answered by their history and leave what it leaves; nothing declines
+-- the making of that grid, and it has the size and the capacity that were asked for. In the history a seek that opened is the opening
+-- on its route.
+pub record Replays {M V T : Type 0} (R : Conditions M V) (xs : List T) (calls : List (Call T M)) (answers : List (Result (Reply T) Declined)) (t : Tables) (xs' : List T) : Type 0 where
+  pub makes : making_refusal R.lanes R.depth R.capacity ≡ None
+  pub has_lanes : t.lanes.size.lanes ≡ R.lanes
+  pub has_depth : t.lanes.size.depth ≡ R.depth
+  pub has_capacity : t.capacity ≡ R.capacity
+  pub history : History T
+  pub run : Leads R start calls answers history
+  pub leaves : LeftBy (setting_of R) history xs t xs'

@@ -1,20 +1,22 @@
 // Making a call.
-ghost use Rattle.std.specs.Prelude.{◌≡◌};
-ghost use Rattle.grid.specs.Makes.{Makes};
-ghost use Rattle.runs.specs.Calls.{asked, answered, Shown};
+ghost use Rattle.std.specs.Prelude.{◌≡◌, length};
+ghost use Rattle.runs.specs.Calls.{MakesCall, Shown};
 
 use crate::call::{Answer, Call, Reply};
 use grid::grid::Grid;
 use layouts::layout::Layout;
+use search::measure::Measure;
 
-// Makes a call on a grid, with these slots lent.
-pub(crate) fn make<L: Layout, T: Copy>(
+// Makes a call on a grid, with these slots lent, and scratch for a seek.
+pub(crate) fn make<L: Layout, T: Copy, M: Measure>(
     grid: &mut Grid<L>,
     slots: &mut [T],
-    call: &Call<T>,
+    values: &mut [M::Value],
+    marks: &mut [u16],
+    call: &Call<T, M>,
 ) -> Answer<T>
     requires { Shown grid.old.tables slots.old }
-    ensures made { Makes (L.meaning grid.old.layout) grid.old.tables slots.old (asked call.now) (answered result) grid.new.tables slots.new }
+    ensures made { MakesCall (λ measure. M.scale measure) (length values.old) (length marks.old) (L.meaning grid.old.layout) grid.old.tables slots.old call.now result grid.new.tables slots.new }
     ensures layout { grid.new.layout ≡ grid.old.layout }
     ensures shown { Shown grid.new.tables slots.new }
 {
@@ -22,6 +24,10 @@ pub(crate) fn make<L: Layout, T: Copy>(
         Call::Open(stream, request, hops) => {
             grid.open(*stream, *request, hops.as_slice())?;
             Ok(Reply::Done)
+        }
+        Call::Seek(stream, request, measure) => {
+            let hops = grid.seek(*stream, *request, measure, values, marks)?;
+            Ok(Reply::Found(hops))
         }
         Call::Close(stream) => {
             grid.close(*stream)?;

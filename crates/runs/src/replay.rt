@@ -1,7 +1,7 @@
 // Replaying a list of calls.
-ghost use Rattle.std.specs.Prelude.{◌≡◌, IfOk, IfErr};
+ghost use Rattle.std.specs.Prelude.{◌≡◌, length, IfOk, IfErr};
 ghost use Rattle.grid.specs.Blank.{NotMade};
-ghost use Rattle.runs.specs.Runs.{Replays};
+ghost use Rattle.runs.specs.Runs.{conditions, Replays};
 
 use crate::call::{Answer, Call, Reply};
 use crate::make::make;
@@ -9,6 +9,7 @@ use grid::grid::Grid;
 use grid::make::MakeError;
 use layouts::layout::Layout;
 use model::law::law_of_every_run;
+use search::measure::Measure;
 use std::alloc::Global;
 
 /// A run: the grid at its end, and the answer to each call.
@@ -18,22 +19,25 @@ pub struct Run<L: Layout, T> {
     pub answers: Vec<Answer<T>>,
 }
 
-/// Makes calls one after another on a grid that starts blank, with these slots lent, enough or not, and records each answer.
+/// Makes calls one after another on a grid that starts blank, with these slots lent, enough or not, and records each answer. Seeks
+/// are lent the scratch; what is in it afterwards is left open, and so is which of equally good routes a seek takes.
 ///
 /// The contract is what this project is for: whatever the calls, everything let in comes out, in order, a step is possible
 /// exactly while something is on the grid, and the count of steps is known ahead.
 ///
 /// Refuses what `Grid::blank` refuses, or tells that there is no memory; the slots are then as before.
-pub fn replay<L: Layout + Drop, T: Copy>(
+pub fn replay<L: Layout + Drop, T: Copy, M: Measure>(
     heap: Global,
     layout: L,
     lanes: u16,
     depth: u16,
     capacity: u16,
     slots: &mut [T],
-    calls: &[Call<T>],
+    values: &mut [M::Value],
+    marks: &mut [u16],
+    calls: &[Call<T, M>],
 ) -> Result<Run<L, T>, MakeError>
-    ensures run { IfOk result (λ run. Replays (L.meaning layout) lanes depth capacity slots.old calls.now run.answers.items run.grid.tables slots.new) }
+    ensures run { let R = conditions (L.meaning layout) lanes depth capacity (length slots.old) (length values.old) (length marks.old) (λ measure. M.scale measure) in IfOk result (λ run. Replays R slots.old calls.now run.answers.items run.grid.tables slots.new) }
     ensures layout { IfOk result (λ run. run.grid.layout ≡ layout) }
     ensures refused { IfErr result (λ e. NotMade lanes depth capacity e × (slots.new ≡ slots.old)) }
 {
@@ -43,7 +47,7 @@ pub fn replay<L: Layout + Drop, T: Copy>(
     // a place for each answer ahead of the first call, so that want of memory stops no run halfway
     let mut answers = vec![in heap; Ok(Reply::Done); calls.len()]?;
     for k in 0..calls.len() {
-        answers[k] = make(&mut grid, slots, &calls[k]);
+        answers[k] = make(&mut grid, slots, values, marks, &calls[k]);
     }
     Ok(Run { grid, answers })
 }

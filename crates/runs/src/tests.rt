@@ -11,8 +11,14 @@ use refusals::refusal::Refusal;
 use routes::declined::Declined;
 use routes::hop::Hop;
 use routes::stream::Request;
+use search::choice::{Choice, Either};
+use search::peak::Peak;
+use search::total::Total;
 use std::alloc::Global;
 use std::test::Fail;
+
+// Seeks go by the sum of the loads or by the largest load.
+type Measures = Choice<Total, Peak>;
 
 const FIRST: Hop = Hop { link: 0, lane: 1 };
 
@@ -20,7 +26,7 @@ const SECOND: Hop = Hop { link: 1, lane: 1 };
 
 const LAST: Hop = Hop { link: 14, lane: 2 };
 
-fn open_5(heap: Global) -> Result<Call<u32>, Fail> {
+fn open_5(heap: Global) -> Result<Call<u32, Measures>, Fail> {
     let request = Request {
         source: 0,
         target: 5,
@@ -29,7 +35,7 @@ fn open_5(heap: Global) -> Result<Call<u32>, Fail> {
     Ok(Call::Open(5, request, vec![in heap; FIRST, SECOND, LAST]?))
 }
 
-fn open_63(heap: Global) -> Result<Call<u32>, Fail> {
+fn open_63(heap: Global) -> Result<Call<u32, Measures>, Fail> {
     let request = Request {
         source: 1,
         target: 5,
@@ -50,14 +56,24 @@ fn refused(refusal: Refusal) -> Answer<u32> {
     Err(Declined { refusal, hop: None })
 }
 
+// Scratch for a seek on 24 links with three lanes.
+fn scratch() -> ([Either<u32, (u16, u16)>; 144], [u16; 1728]) {
+    ([Either::First(0); 144], [0; 1728])
+}
+
 // A run of lamp words.
-fn run(heap: Global, slots: &mut [u32], calls: &[Call<u32>]) -> Result<Run<Mesh, u32>, Fail> {
+fn run(
+    heap: Global,
+    slots: &mut [u32],
+    calls: &[Call<u32, Measures>],
+) -> Result<Run<Mesh, u32>, Fail> {
     let mesh = Mesh::new(TurnRule::Xy, 3, 3)?;
-    Ok(replay(heap, mesh, 3, 2, 100, slots, calls)?)
+    let (mut values, mut marks) = scratch();
+    Ok(replay(heap, mesh, 3, 2, 100, slots, &mut values, &mut marks, calls)?)
 }
 
 // Sends in an uneven order, then four rounds of steps, and a close.
-fn calls(heap: Global) -> Result<Vec<Call<u32>>, Fail> {
+fn calls(heap: Global) -> Result<Vec<Call<u32, Measures>>, Fail> {
     let first = open_5(heap)?;
     let second = open_63(heap)?;
     Ok(vec![in heap;
@@ -142,9 +158,10 @@ fn strip(word: u32) -> Strip {
     }
 }
 
-fn strip_call(call: Call<u32>) -> Call<Strip> {
+fn strip_call(call: Call<u32, Measures>) -> Call<Strip, Measures> {
     match call {
         Call::Open(stream, request, hops) => Call::Open(stream, request, hops),
+        Call::Seek(stream, request, measure) => Call::Seek(stream, request, measure),
         Call::Close(stream) => Call::Close(stream),
         Call::Send(stream, word) => Call::Send(stream, strip(word)),
         Call::Step(hop) => Call::Step(hop),
@@ -154,6 +171,7 @@ fn strip_call(call: Call<u32>) -> Call<Strip> {
 fn strip_answer(answer: Answer<u32>) -> Answer<Strip> {
     answer.map(|reply| match reply {
         Reply::Done => Reply::Done,
+        Reply::Found(hops) => Reply::Found(hops),
         Reply::Stepped(Step::Moved(stream)) => Reply::Stepped(Step::Moved(stream)),
         Reply::Stepped(Step::Out(stream, word)) => Reply::Stepped(Step::Out(stream, strip(word))),
     })
@@ -163,9 +181,20 @@ fn strip_answer(answer: Answer<u32>) -> Answer<Strip> {
 fn strips_of_two_streams(rt: HostRuntime) -> Result<(), Fail> {
     let heap = rt.alloc();
     let mesh = Mesh::new(TurnRule::Xy, 3, 3)?;
-    let calls: Vec<Call<Strip>> = calls(heap)?.into_iter().map(strip_call).collect(heap)?;
+    let calls: Vec<Call<Strip, Measures>> = calls(heap)?.into_iter().map(strip_call).collect(heap)?;
     let mut slots = [strip(9); 144];
-    let run = replay(heap, mesh, 3, 2, 100, &mut slots, calls.as_slice())?;
+    let (mut values, mut marks) = scratch();
+    let run = replay(
+        heap,
+        mesh,
+        3,
+        2,
+        100,
+        &mut slots,
+        &mut values,
+        &mut marks,
+        calls.as_slice(),
+    )?;
     assert_eq!(rt;
         run.answers.as_slice(),
         answers().map(strip_answer).as_slice()
@@ -190,7 +219,7 @@ fn lamp_words(rt: HostRuntime) -> Result<(), Fail> {
     for (call, answer) in calls.iter().zip(&declined.answers) {
         let expected = match call {
             Call::Send(..) | Call::Step(_) => refused(Refusal::TooFewSlots),
-            Call::Open(..) | Call::Close(_) => Ok(Reply::Done),
+            Call::Open(..) | Call::Seek(..) | Call::Close(_) => Ok(Reply::Done),
         };
         assert_eq!(rt; *answer, expected);
     }
@@ -208,6 +237,7 @@ fn refused_grids(rt: HostRuntime) -> Result<(), Fail> {
     let heap = rt.alloc();
     let calls = calls(heap)?;
     let mut slots = [9; 144];
+    let (mut values, mut marks) = scratch();
     for (lanes, depth, capacity, refusal) in [
         (0, 2, 100, Refusal::GridSize),
         (5, 2, 100, Refusal::GridSize),
@@ -224,6 +254,8 @@ fn refused_grids(rt: HostRuntime) -> Result<(), Fail> {
             depth,
             capacity,
             &mut slots,
+            &mut values,
+            &mut marks,
             calls.as_slice(),
         );
         assert_eq!(rt; run.err(), Some(MakeError::Refused(refusal)));
@@ -233,7 +265,7 @@ fn refused_grids(rt: HostRuntime) -> Result<(), Fail> {
 }
 
 // Two lanes are filled; then three calls are declined, and three are done.
-fn calls_on_full_lanes(heap: Global) -> Result<Vec<Call<u32>>, Fail> {
+fn calls_on_full_lanes(heap: Global) -> Result<Vec<Call<u32, Measures>>, Fail> {
     let first = open_5(heap)?;
     let second = open_63(heap)?;
     let again = open_5(heap)?;
@@ -278,6 +310,62 @@ fn declined_in_the_middle(rt: HostRuntime) -> Result<(), Fail> {
     assert_eq!(rt; slots, slots_with(&left));
     for (hop, count) in [(FIRST, 1), (SECOND, 2), (LAST, 0)] {
         assert_eq!(rt; run.grid.count(hop), Ok(count));
+    }
+    Ok(())
+}
+
+// Seeks by both measures in one run, on links that bear 40 (link 0) and 30 (links 12 and 2): from tile 0 to tile 4 the sum of the
+// loads is less over links 0 and 13, the largest load less over 12 and 2.
+#[test]
+fn seeks_by_two_measures(rt: HostRuntime) -> Result<(), Fail> {
+    let heap = rt.alloc();
+    let mesh = Mesh::new(TurnRule::NegativeFirst, 3, 3)?;
+    let load = |source, target, demand| Request {
+        source,
+        target,
+        demand,
+    };
+    let measure = |is_second| Choice {
+        first: Total,
+        second: Peak,
+        is_second,
+    };
+    let calls: Vec<Call<u32, Measures>> = vec![in heap;
+        Call::Seek(0, load(0, 1, 40), measure(false)),
+        Call::Seek(1, load(0, 3, 30), measure(true)),
+        Call::Seek(2, load(3, 4, 30), measure(false)),
+        Call::Seek(3, load(0, 4, 10), measure(false)),
+        Call::Close(3),
+        Call::Seek(3, load(0, 4, 10), measure(true)),
+        Call::Seek(3, load(0, 4, 10), measure(true)),
+        Call::Seek(4, load(0, 4, 71), measure(true)),
+    ]?;
+    let mut slots = [9; 24];
+    let (mut values, mut marks) = scratch();
+    let run = replay(
+        heap,
+        mesh,
+        1,
+        1,
+        100,
+        &mut slots,
+        &mut values,
+        &mut marks,
+        calls.as_slice(),
+    )?;
+    let expected = [
+        Ok(Reply::Found(1)),
+        Ok(Reply::Found(1)),
+        Ok(Reply::Found(1)),
+        Ok(Reply::Found(2)),
+        Ok(Reply::Done),
+        Ok(Reply::Found(2)),
+        refused(Refusal::AlreadyOpen),
+        refused(Refusal::NoRoute),
+    ];
+    assert_eq!(rt; run.answers.as_slice(), expected.as_slice());
+    for (link, load) in [(0, 40), (13, 0), (12, 40), (2, 40)] {
+        assert_eq!(rt; run.grid.link_load(link), Ok(load));
     }
     Ok(())
 }

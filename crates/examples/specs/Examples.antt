@@ -1,17 +1,22 @@
--- Worked examples. A mesh is 2 × 2 or 3 × 3, under the rule XY.
+-- Worked examples. A mesh is 2 × 2 or 3 × 3, under the rule XY if no other one is told.
 use Rattle.std.specs.Prelude.{◌≡◌, ℕ, List, [], ◌∷◌, Some, None, Option}
 use Rattle.refusals.specs.Numbers.{refusal_number}
 use Rattle.layouts.specs.Layout.{Meaning}
 use Rattle.layouts.specs.Mesh.{mesh_meaning}
 use Rattle.layouts.specs.declared.turn.Turn.TheVariants.{Never, Free, Climb}
-use Rattle.layouts.specs.declared.turn_rule.TurnRule.TheVariants.{Xy}
+use Rattle.layouts.specs.declared.turn_rule.TurnRule.{TurnRule}
+use Rattle.layouts.specs.declared.turn_rule.TurnRule.TheVariants.{Xy, NegativeFirst}
 use Rattle.routes.specs.declared.hop.Hop.{Hop}
+use Rattle.routes.specs.declared.stream.Request.{Request}
 use Rattle.routes.specs.Routes.{hop_on}
+use Rattle.routes.specs.Checks.{Terms}
 use Rattle.model.specs.Grid.{Setting}
 use Rattle.model.specs.Sums.{hops_ahead}
 use Rattle.model.specs.Calls.{Call, opens, closes, sends, steps, Answer, declined, done, moved, out}
-use Rattle.model.specs.Layouts.{on_layout}
+use Rattle.model.specs.Layouts.{terms_on, on_layout}
 use Rattle.model.specs.Runs.{History, start, ◌▸◌, after, answer_to, handed_out_since}
+use Rattle.search.specs.Scales.{Scale, total, peak}
+use Rattle.search.specs.Best.{Best, NoneAcceptable}
 
 abbrev pub small : Meaning
 small = mesh_meaning Xy 2 2
@@ -39,10 +44,14 @@ SmallRoutes =
     (refused_by (answer_to two_lanes start (open_call 0 1 2 1 (hop_on 5 0 ∷ (hop_on 3 0 ∷ [])))) ≡ Some (13, Some 1))
     × (answer_to two_lanes start (open_call 0 1 2 1 (hop_on 5 0 ∷ (hop_on 3 1 ∷ []))) ≡ done)
 
--- The 3 × 3 mesh with one lane and a capacity of 100, and a stream of demand 80 open on links 0 and 13: on the same route
--- there is space for 20 more, and not for 21.
+-- the 3 × 3 mesh under a rule, with so many lanes, where a link can bear 100
+abbrev pub square : TurnRule → ℕ → Setting
+square rule lanes = on_layout (mesh_meaning rule 3 3) lanes 1 100 0
+
+-- With one lane, and a stream of demand 80 open on links 0 and 13: on the same route there is space for 20 more, and not
+-- for 21.
 abbrev pub one_lane : Setting
-one_lane = on_layout (mesh_meaning Xy 3 3) 1 1 100 0
+one_lane = square Xy 1
 
 abbrev pub corner : List Hop
 corner = hop_on 0 0 ∷ (hop_on 13 0 ∷ [])
@@ -81,5 +90,40 @@ ShortRun =
     × (handed_out_since narrow 7 all_out ≡ 50 ∷ (51 ∷ []))
     × (answer_to narrow all_out (closes 7) ≡ done)
 
+-- Best routes on the 3 × 3 mesh, from tile 0 to tile 4 in its middle. They are judged beside the streams that are open after
+-- some calls.
+abbrev pub terms_after : TurnRule → ℕ → History ℕ → Terms
+terms_after rule lanes past = terms_on (mesh_meaning rule 3 3) lanes 100 (after (square rule lanes) past).streams
+
+abbrev pub to_middle : ℕ → Request
+to_middle demand = record { source = 0; target = 4; demand = demand }
+
+-- the other way to tile 4, by tile 3, with the lane of its second hop
+abbrev pub round : ℕ → List Hop
+round lane = hop_on 12 0 ∷ (hop_on 2 lane ∷ [])
+
+-- a best route, where no other route is best
+abbrev pub OnlyBest : {V : Type 0} → Scale V → Terms → Request → List Hop → Type 0
+OnlyBest s t q hops = Best s t q hops × ((other : List Hop) → Best s t q other → other ≡ hops)
+
+-- With the stream of demand 80 open, links 0 and 13 cannot bear 30 more, and the other way has to climb. So there is no
+-- route with one lane, and with two lanes there is one of two hops.
+abbrev pub LoadedSeeks : Type 0
+LoadedSeeks =
+    NoneAcceptable (terms_after Xy 1 loaded) (to_middle 30)
+    × OnlyBest total (terms_after Xy 2 loaded) (to_middle 30) (round 1)
+    × OnlyBest peak (terms_after Xy 2 loaded) (to_middle 30) (round 1)
+
+-- Under the rule negative-first neither way has to climb. Link 0 has a load of 40 and link 13 none, links 12 and 2 have one
+-- of 30 each: the first way has the least sum of loads, and the other one the lowest peak.
+abbrev pub shared : History ℕ
+shared =
+    start ▸ open_call 0 0 1 40 (hop_on 0 0 ∷ []) ▸ open_call 1 0 3 30 (hop_on 12 0 ∷ []) ▸ open_call 2 3 4 30 (hop_on 2 0 ∷ [])
+
+abbrev pub SharedSeeks : Type 0
+SharedSeeks =
+    OnlyBest total (terms_after NegativeFirst 1 shared) (to_middle 10) corner
+    × OnlyBest peak (terms_after NegativeFirst 1 shared) (to_middle 10) (round 0)
+
 abbrev pub WorkedExamples : Type 0
-WorkedExamples = SmallTurns × SmallRoutes × LoadedOpenings × ShortRun
+WorkedExamples = SmallTurns × SmallRoutes × LoadedOpenings × ShortRun × LoadedSeeks × SharedSeeks

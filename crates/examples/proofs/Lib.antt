@@ -1,0 +1,4 @@
+pub mod Candidates
+pub mod Bests
+pub mod TwoHops
+pub mod Seeks

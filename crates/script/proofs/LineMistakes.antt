@@ -3,7 +3,7 @@ use Rattle.std.proofs.Common.{ℕ, Bool, true, false, cond, List, [], ◌∷◌,
 use Rattle.script.specs.declared.mistake.Mistake.TheVariants.{UnknownCommand}
 use Rattle.script.specs.Reads.{Read, OfTheLine, then}
 use Rattle.script.specs.Hops.{hops_in}
-use Rattle.script.specs.Parts.{first_shape, first_number, nothing_more, only_number, only_hop, only_strip, request_and_hops}
+use Rattle.script.specs.Parts.{first_shape, first_number, first_measure, first_request, nothing_more, only_number, only_hop, only_strip, request_and_hops}
 use Rattle.script.specs.Commands.{Instruction, question_named, call_named, named_instruction, command_of}
 
 then_mistakes : {A B : Type 0} (r : Read A) (f : A → Read B) → OfTheLine r → ((x : A) → OfTheLine (f x)) → OfTheLine (then r f)
@@ -19,6 +19,12 @@ number_mistakes ws = grind arith
 
 shape_mistakes : (ws : List (List ℕ)) → OfTheLine (first_shape ws)
 shape_mistakes ws = grind arith
+
+measure_mistakes : (ws : List (List ℕ)) → OfTheLine (first_measure ws)
+measure_mistakes ws = grind arith
+
+fields_mistakes : (ws : List (List ℕ)) → OfTheLine (first_request ws)
+fields_mistakes ws = grind arith
 
 end_mistakes : (ws : List (List ℕ)) → OfTheLine (nothing_more ws)
 end_mistakes ws = grind arith
@@ -37,7 +43,7 @@ hops_mistakes [] = tt
 hops_mistakes (w ∷ ws) = grind (arith, hops_mistakes ws)
 
 request_mistakes : (ws : List (List ℕ)) → OfTheLine (request_and_hops ws)
-request_mistakes ws = search (then_mistakes, number_mistakes, hops_mistakes)
+request_mistakes ws = search (then_mistakes, fields_mistakes, hops_mistakes)
 
 no_command : OfTheLine {A = Instruction} (Err UnknownCommand)
 no_command = grind arith
@@ -47,6 +53,8 @@ ruleset parts = (
   cond_mistakes,
   number_mistakes,
   shape_mistakes,
+  measure_mistakes,
+  fields_mistakes,
   end_mistakes,
   only_number_mistakes,
   hop_mistakes,

@@ -6,10 +6,11 @@ use Rattle.routes.specs.declared.hop.Hop.{Hop}
 use Rattle.routes.specs.declared.stream.Request.{Request}
 use Rattle.lanes.specs.declared.strip.Strip.{Strip}
 use Rattle.script.specs.declared.command.Command.{Command}
-use Rattle.script.specs.declared.command.Command.TheVariants.{Mesh, Link, Turn, Judge, Grid, Open, Close, Send, Step, Stream, Route, LinkLoad, Count, Items, Drain}
+use Rattle.script.specs.declared.command.Command.TheVariants.{Mesh, Link, Turn, Judge, Grid, Open, Seek, Close, Send, Step, Stream, Route, LinkLoad, Count, Items, Drain}
+use Rattle.script.specs.declared.command.MeasureName.{MeasureName}
 use Rattle.script.specs.declared.mistake.Mistake.TheVariants.{UnknownCommand}
 use Rattle.script.specs.Reads.{Read, then}
-use Rattle.script.specs.Parts.{first_number, first_shape, behind, past, nothing_more, only_number, only_hop, only_strip, request_and_hops}
+use Rattle.script.specs.Parts.{first_measure, first_number, first_shape, first_request, behind, past, nothing_more, only_number, only_hop, only_strip, request_and_hops}
 
 -- What a command says, with plain lists.
 pub data Instruction : Type 0 where
@@ -19,6 +20,7 @@ pub data Instruction : Type 0 where
   judge : Request → List Hop → Instruction
   grid : TurnRule → ℕ → ℕ → ℕ → ℕ → ℕ → Instruction
   opens : ℕ → Request → List Hop → Instruction
+  seeks : ℕ → Request → MeasureName → Instruction
   closes : ℕ → Instruction
   sends : ℕ → Strip → Instruction
   steps : Hop → Instruction
@@ -36,6 +38,7 @@ instruction_of (Turn a b) = turn a b
 instruction_of (Judge request hops) = judge request (vec_items hops)
 instruction_of (Grid rule w h lanes depth capacity) = grid rule w h lanes depth capacity
 instruction_of (Open s request hops) = opens s request (vec_items hops)
+instruction_of (Seek s request measure) = seeks s request measure
 instruction_of (Close s) = closes s
 instruction_of (Send s strip) = sends s strip
 instruction_of (Step hop) = steps hop
@@ -72,6 +75,12 @@ grid_instruction ws =
 abbrev pub open_instruction : List (List ℕ) → Read Instruction
 open_instruction ws = then (first_number ws) (λ s. then (request_and_hops (behind ws)) (λ a. Ok (opens s a.0 a.1)))
 
+-- seek S FROM TO DEMAND MEASURE
+abbrev pub seek_instruction : List (List ℕ) → Read Instruction
+seek_instruction ws =
+    then (first_number ws) (λ s. then (first_request (behind ws)) (λ request. then (first_measure (past 4 ws)) (λ measure.
+    then (nothing_more (past 5 ws)) (λ _. Ok (seeks s request measure)))))
+
 -- send S FRAGMENT BAND ROW
 abbrev pub send_instruction : List (List ℕ) → Read Instruction
 send_instruction ws = then (first_number ws) (λ s. then (only_strip (behind ws)) (λ strip. Ok (sends s strip)))
@@ -102,11 +111,12 @@ question_named name ws =
 abbrev pub call_named : List ℕ → List (List ℕ) → Read Instruction
 call_named name ws =
     cond (bytes_eq name (codes "open")) (open_instruction ws)
+    (cond (bytes_eq name (codes "seek")) (seek_instruction ws)
     (cond (bytes_eq name (codes "close")) (number_instruction closes ws)
     (cond (bytes_eq name (codes "send")) (send_instruction ws)
     (cond (bytes_eq name (codes "step")) (hop_instruction steps ws)
     (cond (bytes_eq name (codes "drain")) (bare_instruction drains ws)
-    (question_named name ws)))))
+    (question_named name ws))))))
 
 -- all commands: these, and those that make a mesh or a grid or ask about a mesh
 abbrev pub named_instruction : List ℕ → List (List ℕ) → Read Instruction

@@ -7,7 +7,9 @@ use Rattle.routes.specs.declared.hop.Hop.{Hop}
 use Rattle.routes.specs.declared.stream.Request.{Request}
 use Rattle.routes.specs.Routes.{hop_on}
 use Rattle.lanes.specs.declared.strip.Strip.{Strip}
-use Rattle.script.specs.declared.mistake.Mistake.TheVariants.{MissingWord, ExtraWord, UnknownRule}
+use Rattle.script.specs.declared.command.MeasureName.{MeasureName}
+use Rattle.script.specs.declared.command.MeasureName.TheVariants.{Total, Peak}
+use Rattle.script.specs.declared.mistake.Mistake.TheVariants.{MissingWord, ExtraWord, UnknownRule, NotAMeasure}
 use Rattle.script.specs.Numbers.{decimal_of}
 use Rattle.script.specs.Reads.{Read, then}
 use Rattle.script.specs.Hops.{hops_in}
@@ -20,6 +22,10 @@ rule_of w =
     (cond (bytes_eq w (codes "north-last")) (Ok NorthLast)
     (cond (bytes_eq w (codes "negative-first")) (Ok NegativeFirst)
     (Err UnknownRule))))
+
+-- the measure that a word names
+abbrev pub measure_of : List ℕ → Read MeasureName
+measure_of w = cond (bytes_eq w (codes "total")) (Ok Total) (cond (bytes_eq w (codes "peak")) (Ok Peak) (Err NotAMeasure))
 
 -- the first word as f reads it, and the words behind it
 abbrev pub first : {A : Type 0} → (List ℕ → Read A) → List (List ℕ) → Read A
@@ -38,6 +44,9 @@ past (suc n) ws = past n (behind ws)
 abbrev pub first_rule : List (List ℕ) → Read TurnRule
 first_rule ws = first rule_of ws
 
+abbrev pub first_measure : List (List ℕ) → Read MeasureName
+first_measure ws = first measure_of ws
+
 -- a number of 16 bits, of 8 and of 32
 abbrev pub first_number : List (List ℕ) → Read ℕ
 first_number ws = first (decimal_of 65535) ws
@@ -52,6 +61,12 @@ first_large_number ws = first (decimal_of 4294967295) ws
 abbrev pub first_shape : List (List ℕ) → Read (TurnRule × ℕ × ℕ)
 first_shape ws =
     then (first_rule ws) (λ rule. then (first_number (behind ws)) (λ w. then (first_number (past 2 ws)) (λ h. Ok (rule, w, h))))
+
+-- FROM TO DEMAND
+abbrev pub first_request : List (List ℕ) → Read Request
+first_request ws =
+    then (first_number ws) (λ from. then (first_number (behind ws)) (λ to. then (first_number (past 2 ws)) (λ demand.
+    Ok (record { source = from; target = to; demand = demand }))))
 
 abbrev pub nothing_more : List (List ℕ) → Read (Unit {0})
 nothing_more [] = Ok tt
@@ -75,6 +90,4 @@ only_strip ws =
 
 -- FROM TO DEMAND HOP..
 abbrev pub request_and_hops : List (List ℕ) → Read (Request × List Hop)
-request_and_hops ws =
-    then (first_number ws) (λ from. then (first_number (behind ws)) (λ to. then (first_number (past 2 ws)) (λ demand.
-    then (hops_in (past 3 ws)) (λ hops. Ok (record { source = from; target = to; demand = demand }, hops)))))
+request_and_hops ws = then (first_request ws) (λ request. then (hops_in (past 3 ws)) (λ hops. Ok (request, hops)))

@@ -4,6 +4,15 @@ use layouts::turn_rule::TurnRule;
 use routes::hop::Hop;
 use routes::stream::Request;
 
+/// A measure of routes, by its name.
+#[derive(Clone, Copy, PartialEq, Eq, Debug)]
+pub enum MeasureName {
+    /// The sum of the loads.
+    Total,
+    /// The largest load.
+    Peak,
+}
+
 /// A command of a script.
 #[derive(PartialEq, Eq, Debug, Drop)]
 pub enum Command {
@@ -26,6 +35,8 @@ pub enum Command {
     },
     /// Open the stream of this number for what it asks for, by a route of these hops.
     Open(u16, Request, Vec<Hop>),
+    /// Open the stream of this number for what it asks for, by a best route of this measure.
+    Seek(u16, Request, MeasureName),
     /// Close a stream.
     Close(u16),
     /// Send a strip by a stream.

@@ -23,6 +23,8 @@ pub enum Mistake {
     NumberTooLarge,
     /// The word where a hop is wanted has no dot.
     NotAHop,
+    /// The word where a measure is wanted names none.
+    NotAMeasure,
     /// The command wants a mesh, and none has been made.
     NoMesh,
     /// The command wants a grid, and none has been made.
@@ -44,6 +46,7 @@ impl Mistake {
             Mistake::NotANumber => "not a number",
             Mistake::NumberTooLarge => "number too large",
             Mistake::NotAHop => "not a hop",
+            Mistake::NotAMeasure => "not a measure",
             Mistake::NoMesh => "no mesh",
             Mistake::NoGrid => "no grid",
             Mistake::OutOfMemory => "out of memory",

@@ -3,7 +3,7 @@ ghost use Rattle.std.specs.Prelude.{◌≡◌, ◌∷◌};
 ghost use Rattle.std.specs.Option.{option_map};
 ghost use Rattle.script.specs.Words.{words_of};
 ghost use Rattle.script.specs.Reads.{said, Parses, OfTheLine};
-ghost use Rattle.script.specs.Commands.{instruction_of, mesh_instruction, turn_instruction, grid_instruction, judge_instruction, open_instruction, send_instruction, question_named, call_named, named_instruction, command_of, NeedsMemory};
+ghost use Rattle.script.specs.Commands.{instruction_of, mesh_instruction, turn_instruction, grid_instruction, judge_instruction, open_instruction, seek_instruction, send_instruction, question_named, call_named, named_instruction, command_of, NeedsMemory};
 
 use crate::command::Command;
 use crate::mistake::Mistake;
@@ -66,6 +66,17 @@ impl<'a> Words<'a> {
         Ok(Command::Open(stream, request, hops))
     }
 
+    // The words behind `seek`: a stream, what it asks for, and a measure.
+    fn seek(&mut self) -> Result<Command, Mistake>
+        ensures { said instruction_of result ≡ seek_instruction self.old }
+    {
+        let stream = self.number()?;
+        let request = self.request()?;
+        let measure = self.measure()?;
+        self.end()?;
+        Ok(Command::Seek(stream, request, measure))
+    }
+
     // The words behind `send`: a stream and a strip.
     fn send(&mut self) -> Result<Command, Mistake>
         ensures { said instruction_of result ≡ send_instruction self.old }
@@ -98,6 +109,7 @@ fn call(heap: Global, name: &[u8], words: &mut Words<'_>) -> Result<Command, Mis
 {
     match name {
         b"open" => words.open(heap),
+        b"seek" => words.seek(),
         b"close" => words.only_number().map(Command::Close),
         b"send" => words.send(),
         b"step" => words.only_hop().map(Command::Step),

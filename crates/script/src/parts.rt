@@ -1,9 +1,10 @@
 // The parts of a command, read word by word.
 ghost use Rattle.std.specs.Prelude.{◌≡◌, vec_items, OnOk};
 ghost use Rattle.script.specs.Hops.{hops_in};
-ghost use Rattle.script.specs.Parts.{rule_of, first, first_number, first_shape, first_small_number, nothing_more, behind, past, only_number, only_hop, only_strip, request_and_hops};
+ghost use Rattle.script.specs.Parts.{rule_of, measure_of, first, first_measure, first_number, first_shape, first_request, first_small_number, nothing_more, behind, past, only_number, only_hop, only_strip, request_and_hops};
 ghost use Rattle.script.specs.Reads.{said, Parses};
 
+use crate::command::MeasureName;
 use crate::hop::hop;
 use crate::mistake::Mistake;
 use crate::number::{decimal, number, small_number};
@@ -24,6 +25,17 @@ fn turn_rule(word: &[u8]) -> Result<TurnRule, Mistake>
         b"north-last" => Ok(TurnRule::NorthLast),
         b"negative-first" => Ok(TurnRule::NegativeFirst),
         _ => Err(Mistake::UnknownRule),
+    }
+}
+
+// The measure that a word names.
+fn measure(word: &[u8]) -> Result<MeasureName, Mistake>
+    ensures { result ≡ measure_of word.now }
+{
+    match word {
+        b"total" => Ok(MeasureName::Total),
+        b"peak" => Ok(MeasureName::Peak),
+        _ => Err(Mistake::NotAMeasure),
     }
 }
 
@@ -71,6 +83,29 @@ impl<'a> Words<'a> {
         let width = self.number()?;
         let height = self.number()?;
         Ok((rule, width, height))
+    }
+
+    /// The next words as what a stream asks for: its source, target and demand.
+    pub(crate) fn request(&mut self) -> Result<Request, Mistake>
+        ensures value { result ≡ first_request self.old }
+        ensures after { OnOk result (self.new ≡ past 3 self.old) }
+    {
+        let source = self.number()?;
+        let target = self.number()?;
+        let demand = self.number()?;
+        Ok(Request {
+            source,
+            target,
+            demand,
+        })
+    }
+
+    /// The next word as a measure.
+    pub(crate) fn measure(&mut self) -> Result<MeasureName, Mistake>
+        ensures value { result ≡ first_measure self.old }
+        ensures after { self.new ≡ behind self.old }
+    {
+        measure(self.word()?)
     }
 
     /// The one word that is left as a number of 16 bits.
@@ -123,14 +158,7 @@ impl<'a> Words<'a> {
     pub(crate) fn request_and_hops(&mut self, heap: Global) -> Result<(Request, Vec<Hop>), Mistake>
         ensures { Parses (λ a. (a.0, vec_items a.1)) (Unit {0}) (request_and_hops self.old) result }
     {
-        let source = self.number()?;
-        let target = self.number()?;
-        let demand = self.number()?;
-        let request = Request {
-            source,
-            target,
-            demand,
-        };
+        let request = self.request()?;
         Ok((request, self.hops(heap)?))
     }
 }

@@ -1,5 +1,5 @@
 // Lines of a script and what they read as.
-use crate::command::Command;
+use crate::command::{Command, MeasureName};
 use crate::mistake::Mistake;
 use crate::parse::parse;
 use lanes::strip::Strip;
@@ -62,7 +62,7 @@ fn grid_commands(rt: HostRuntime) -> Result<(), Fail> {
         band: 255,
         row: 65535,
     };
-    let lines: [(&[u8], Command); 12] = [
+    let lines: [(&[u8], Command); 14] = [
         (
             b"grid west-first 3 4 2 8 100",
             Command::Grid {
@@ -81,6 +81,14 @@ fn grid_commands(rt: HostRuntime) -> Result<(), Fail> {
         (
             b"open 63 0 8 10 12.255",
             Command::Open(63, request, vec![in heap; hop]?),
+        ),
+        (
+            b"seek 63 0 8 10 total",
+            Command::Seek(63, request, MeasureName::Total),
+        ),
+        (
+            b"seek 65535 0 8 10 peak#",
+            Command::Seek(65535, request, MeasureName::Peak),
         ),
         (b"close 63", Command::Close(63)),
         (b"send 5 4294967295 255 65535", Command::Send(5, strip)),
@@ -127,13 +135,23 @@ fn mistakes(rt: HostRuntime) {
 
 #[test]
 fn grid_mistakes(rt: HostRuntime) {
-    let lines: [(&[u8], Mistake); 20] = [
+    let lines: [(&[u8], Mistake); 30] = [
         (b"grid xy 3 3 2 8", Mistake::MissingWord),
         (b"grid xy 3 3 2 8 100 1", Mistake::ExtraWord),
         (b"grid zigzag three", Mistake::UnknownRule),
         (b"open 5 0 8", Mistake::MissingWord),
         (b"open 65536 0 8 10", Mistake::NumberTooLarge),
         (b"open 5 0 8 10 12 0", Mistake::NotAHop),
+        (b"seek", Mistake::MissingWord),
+        (b"seek 5 0 8", Mistake::MissingWord),
+        (b"seek 5 0 8 10", Mistake::MissingWord),
+        (b"seek 5 0 8 10 total 1", Mistake::ExtraWord),
+        (b"seek 5 0 8 10 mean 1", Mistake::NotAMeasure),
+        (b"seek 5 0 8 10 Peak", Mistake::NotAMeasure),
+        (b"seek 5 0 8 10 peak5", Mistake::NotAMeasure),
+        (b"seek 65536 0 8 10 peak", Mistake::NumberTooLarge),
+        (b"seek 5 0 8 65536 mean", Mistake::NumberTooLarge),
+        (b"seek 5 0 total 10 8", Mistake::NotANumber),
         (b"close", Mistake::MissingWord),
         (b"close 5 6", Mistake::ExtraWord),
         (b"send 5 1 2", Mistake::MissingWord),

@@ -16,6 +16,7 @@ returns-in_default c =
     let no_call : call_named c.args.name.now c.args.words.now ≡ question_named c.args.name.now c.args.words.now =
     simp (
       not (codes "open") (λ same. grind arith),
+      not (codes "seek") (λ same. grind arith),
       not (codes "close") (λ same. grind arith),
       not (codes "send") (λ same. grind arith),
       not (codes "step") (λ same. grind arith),

@@ -1,4 +1,5 @@
 pub mod Texts
 pub mod Failures
+pub mod Measures
 pub mod Hands
 pub mod Sessions

@@ -1,5 +1,5 @@
 -- What a session answers, and what it has at hand afterwards.
-use Rattle.std.specs.Prelude.{◌≡◌, ℕ, ◌⊎◌, List, ◌++◌, length, drop, replicate, Some, None, Ok, Err, Option, Result}
+use Rattle.std.specs.Prelude.{◌≡◌, ℕ, ◌*◌, ◌⊎◌, List, ◌++◌, length, drop, replicate, Some, None, Ok, Err, Option, Result}
 use Rattle.refusals.specs.declared.refusal.Refusal.{Refusal}
 use Rattle.refusals.specs.declared.refusal.Refusal.TheVariants.{MeshSize}
 use Rattle.layouts.specs.Layout.{Meaning}
@@ -15,13 +15,15 @@ use Rattle.model.specs.Sums.{item_count}
 use Rattle.model.specs.Calls.{opens, closes, sends, steps, answer_of, done}
 use Rattle.model.specs.Questions.{fields_of, hops_of_stream, load_on, count_in}
 use Rattle.lanes.specs.declared.strip.Strip.{Strip}
-use Rattle.lanes.specs.Sizes.{slot_count}
+use Rattle.lanes.specs.Sizes.{lane_count, slot_count}
 use Rattle.grid.specs.declared.step.Step.{Step}
 use Rattle.grid.specs.declared.step.Step.TheVariants as step
 use Rattle.grid.specs.Views.{streams_in, outline, setting}
 use Rattle.grid.specs.Makes.{step_answer, hop_answer, Makes, Edits}
 use Rattle.grid.specs.declared.make.MakeError.{MakeError}
+use Rattle.grid.specs.Seeks.{Seeks}
 use Rattle.grid.specs.Blank.{making_refusal, BlankTables, NotMade}
+use Rattle.script.specs.declared.command.MeasureName.{MeasureName}
 use Rattle.script.specs.declared.mistake.Mistake.TheVariants.{NoMesh, NoGrid, OutOfMemory}
 use Rattle.script.specs.Words.{words_of}
 use Rattle.script.specs.Reads.{Read}
@@ -33,6 +35,7 @@ use Rattle.session.specs.declared.failure.Failure.{Failure}
 use Rattle.session.specs.declared.failure.Failure.TheVariants as failure
 use Rattle.session.specs.declared.failure.LineFailure.{LineFailure}
 use Rattle.session.specs.Failures.{making_failure}
+use Rattle.session.specs.Measures.{scale_of}
 use Rattle.session.specs.Hands.{GridHand, Hand}
 
 -- the response to a command: its answer, or why it has none
@@ -68,15 +71,19 @@ by_mesh f (Some m) = f m
 
 -- ---- grids
 
+-- a grid has as many slots as its lanes can contain items
+abbrev pub AllSlots : GridHand → Type 0
+AllSlots g = length g.slots ≡ slot_count g.tables.lanes.size
+
 -- A blank grid on a mesh, with a slot for each item that its lanes can contain. What the slots hold is left open.
 pub record NewGrid (m : Meaning) (lanes depth capacity : ℕ) (g : GridHand) : Type 0 where
   pub allowed : making_refusal lanes depth capacity ≡ None
   pub layout_is : g.layout ≡ m
   pub blank : BlankTables m.links lanes depth capacity g.tables
-  pub enough : length g.slots ≡ slot_count g.tables.lanes.size
+  pub enough : AllSlots g
 
 -- A grid is made on a mesh, and both are at hand; or its mesh is refused, or the grid, or there is no memory, and all is
--- as before. Memory has to hold the tables and the slots, so also a grid that nothing declines may find none.
+-- as before. Memory has to hold the tables, the slots and the scratch of seeks, so also a grid that nothing declines may find none.
 abbrev pub MakesGrid : Hand → TurnRule → ℕ → ℕ → ℕ → ℕ → ℕ → Response → Hand → Type 0
 MakesGrid before rule w h lanes depth capacity r after =
     (InRange w h × ((g : GridHand) × NewGrid (mesh_meaning rule w h) lanes depth capacity g
@@ -89,10 +96,10 @@ abbrev pub by_grid : (GridHand → Response) → Option GridHand → Response
 by_grid f None = Err (failure.Mistake NoGrid)
 by_grid f (Some g) = f g
 
--- a call on the grid at hand, by what it answers and leaves of the grid
+-- a call on the grid at hand, which has all its slots, by what it answers and leaves of the grid
 abbrev pub OnGrid : (GridHand → Response → GridHand → Type 0) → Option Meaning → Option GridHand → Response → Hand → Type 0
 OnGrid Calls mesh None r after = (r ≡ Err (failure.Mistake NoGrid)) × (after ≡ record { mesh = mesh; grid = None })
-OnGrid Calls mesh (Some g) r after = (g' : GridHand) × Calls g r g' × (after ≡ record { mesh = mesh; grid = Some g' })
+OnGrid Calls mesh (Some g) r after = AllSlots g × ((g' : GridHand) × Calls g r g' × (after ≡ record { mesh = mesh; grid = Some g' }))
 
 -- what a value answers, or the refusal
 abbrev pub response_by : {A : Type 0} → (A → Answer) → Result A Refusal → Response
@@ -149,6 +156,17 @@ items g = Ok (Count (item_count (setting g.layout g.tables 0) (outline g.tables)
 abbrev pub lanes : GridHand → Response
 lanes g = Ok (Drain g.tables.lanes.size.links g.tables.lanes.size.lanes)
 
+-- a seek answers the route that its stream has then, or what declines it
+abbrev pub sought : ℕ → GridHand → Result ℕ Declined → Response
+sought n g (Ok count) = route n g
+sought n g (Err d) = Err (failure.Declined d)
+
+-- A seek is lent scratch of two values and 24 marks for each lane of each link, which is enough, and no slots.
+abbrev pub Searches : ℕ → Request → MeasureName → GridHand → Response → GridHand → Type 0
+Searches n q measure g r g' =
+    (a : Result ℕ Declined) × Seeks (scale_of measure) g.layout g.tables n q (2 * lane_count g.tables.lanes.size) (24 * lane_count g.tables.lanes.size) a g'.tables
+    × (g'.layout ≡ g.layout) × (g'.slots ≡ g.slots) × (r ≡ sought n g' a)
+
 -- ---- commands and lines
 
 -- the response to each command, and what is at hand after it
@@ -159,6 +177,7 @@ Answers before (command.turn a b) r after = (r ≡ by_mesh (λ m. Ok (Turn (m.tu
 Answers before (command.judge q hops) r after = (r ≡ by_mesh (λ m. ended (verdict (judgement (unloaded m) q hops))) before.mesh) × (after ≡ before)
 Answers before (command.grid rule w h lanes depth capacity) r after = MakesGrid before rule w h lanes depth capacity r after
 Answers before (command.opens n q hops) r after = OnGrid (Opens n q hops) before.mesh before.grid r after
+Answers before (command.seeks n q measure) r after = OnGrid (Searches n q measure) before.mesh before.grid r after
 Answers before (command.closes n) r after = OnGrid (Closes n) before.mesh before.grid r after
 Answers before (command.sends n x) r after = OnGrid (Sends n x) before.mesh before.grid r after
 Answers before (command.steps h) r after = OnGrid (Steps h) before.mesh before.grid r after

@@ -1,10 +1,11 @@
 // The grid at hand, and its answers.
-ghost use Rattle.std.specs.Prelude.{◌≡◌, length, Ok, MatchResult, vec_items};
+ghost use Rattle.std.specs.Prelude.{◌≡◌, ◌*◌, length, Ok, MatchResult, vec_items};
 ghost use Rattle.layouts.specs.Mesh.{meaning_of};
+ghost use Rattle.lanes.specs.Sizes.{lane_count, slot_count};
+ghost use Rattle.search.specs.Scales.{choice, total, peak};
 ghost use Rattle.grid.specs.declared.make.MakeError.TheVariants.{OutOfMemory};
 ghost use Rattle.grid.specs.Blank.{NotMade};
-ghost use Rattle.session.specs.Hands.{grid_of};
-ghost use Rattle.session.specs.Sessions.{NewGrid, Opens, Closes, Sends, Steps, fields, route, link_load, count, items, lanes};
+ghost use Rattle.session.specs.Measures.{scale_of};
 
 use crate::answer::Answer;
 use crate::failure::Failure;
@@ -15,29 +16,50 @@ use lanes::strip::Strip;
 use layouts::mesh::Mesh;
 use routes::hop::Hop;
 use routes::stream::Request;
+use script::command::MeasureName;
+use search::choice::{Choice, Either};
+use search::peak::Peak;
+use search::total::Total;
 use std::alloc::Global;
 
-/// A grid with a slot for each item that its lanes can contain.
+/// A grid with a slot for each item that its lanes can contain, and the scratch of seeks: two values and 24 marks for each lane.
 #[derive(Drop)]
 pub(crate) struct GridAtHand {
     pub(crate) grid: Grid<Mesh>,
     pub(crate) slots: Vec<Strip>,
+    values: Vec<Either<u32, (u16, u16)>>,
+    marks: Vec<u16>,
+    ghost all_slots: { length (vec_items slots) ≡ slot_count grid.tables.lanes.size },
+    ghost all_values: { length (vec_items values) ≡ 2 * lane_count grid.tables.lanes.size },
+    ghost all_marks: { length (vec_items marks) ≡ 24 * lane_count grid.tables.lanes.size },
 }
 
-// So many slots, all alike.
-fn blank_slots(heap: Global, count: usize) -> Result<Vec<Strip>, MakeError>
-    ensures { MatchResult result (λ slots. length (vec_items slots) ≡ count) (λ e. e ≡ OutOfMemory) }
+// So many of an item.
+fn filled<T: Copy + Drop>(heap: Global, item: T, count: usize) -> Result<Vec<T>, MakeError>
+    ensures { MatchResult result (λ items. length (vec_items items) ≡ count) (λ e. e ≡ OutOfMemory) }
 {
-    let strip = Strip {
-        fragment: 0,
-        band: 0,
-        row: 0,
-    };
-    Ok(vec![in heap; strip; count]?)
+    Ok(vec![in heap; item; count]?)
+}
+
+// The measure that a name means.
+fn measure_of(name: MeasureName) -> Choice<Total, Peak>
+    ensures { choice result.is_second total peak ≡ scale_of name }
+{
+    Choice {
+        first: Total,
+        second: Peak,
+        is_second: match name {
+            MeasureName::Total => false,
+            MeasureName::Peak => true,
+        },
+    }
 }
 
 impl GridAtHand {
-    // A blank grid with its slots.
+    ghost use Rattle.session.specs.Hands.{grid_of};
+    ghost use Rattle.session.specs.Sessions.{NewGrid, Opens, Searches, Closes, Sends, Steps, fields, route, link_load, count, items, lanes};
+
+    // A blank grid with its slots and scratch.
     pub(crate) fn blank(
         heap: Global,
         mesh: Mesh,
@@ -48,8 +70,19 @@ impl GridAtHand {
         ensures { MatchResult result (λ g. NewGrid (meaning_of mesh) lanes depth capacity (grid_of g)) (λ e. NotMade lanes depth capacity e) }
     {
         let grid = Grid::blank(heap, mesh, lanes, depth, capacity)?;
-        let slots = blank_slots(heap, grid.size().slots())?;
-        Ok(GridAtHand { grid, slots })
+        let size = grid.size();
+        let lane_count = usize::from(size.links()) * usize::from(size.lanes());
+        let strip = Strip {
+            fragment: 0,
+            band: 0,
+            row: 0,
+        };
+        Ok(GridAtHand {
+            grid,
+            slots: filled(heap, strip, size.slots())?,
+            values: filled(heap, Either::First(0), 2 * lane_count)?,
+            marks: filled(heap, 0, 24 * lane_count)?,
+        })
     }
 
     // Opens a stream.
@@ -63,6 +96,25 @@ impl GridAtHand {
     {
         self.grid.open(stream, request, hops)?;
         Ok(Answer::Accepted)
+    }
+
+    // Opens a stream on a best route, and answers that route.
+    pub(crate) fn seek(
+        &mut self,
+        stream: u16,
+        request: Request,
+        measure: MeasureName,
+    ) -> Result<Answer, Failure>
+        ensures { Searches stream request measure (grid_of self.old) result (grid_of self.new) }
+    {
+        self.grid.seek(
+            stream,
+            request,
+            &measure_of(measure),
+            self.values.as_mut_slice(),
+            self.marks.as_mut_slice(),
+        )?;
+        self.route(stream)
     }
 
     // Closes a stream.

@@ -110,6 +110,10 @@ impl Session {
                 Some(grid) => grid.open(stream, request, hops.as_slice()),
                 None => Err(Mistake::NoGrid.into()),
             },
+            Command::Seek(stream, request, measure) => match &mut self.grid {
+                Some(grid) => grid.seek(stream, request, measure),
+                None => Err(Mistake::NoGrid.into()),
+            },
             Command::Close(stream) => match &mut self.grid {
                 Some(grid) => grid.close(stream),
                 None => Err(Mistake::NoGrid.into()),

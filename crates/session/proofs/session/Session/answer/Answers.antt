@@ -1,6 +1,6 @@
 use Rattle.std.proofs.Common.{vec_items}
 use Rattle.session.specs.Hands.{hand_of}
-use Rattle.session.specs.Sessions.{Opens, Closes, Sends, Steps}
+use Rattle.session.specs.Sessions.{Opens, Searches, Closes, Sends, Steps}
 use Rattle.session.proofs.OnGrids.{on_grid, grid_made}
 use Rattle.session.proofs.session.Session.answer.Goals as goal
 
@@ -19,12 +19,17 @@ returns-in-Some c =
 
 pub returns-in-Some-grid : goal.returns-in-Some-grid
 returns-in-Some-grid c =
-    rw c.in-Close.is (on_grid (Closes c.in-Close.stream) c.args.self.now c.in-Some-grid.grid c.close.new.self c.close.result c.in-Some-grid.is c.close.ensures)
+    rw c.in-Seek.is
+    (on_grid (Searches c.in-Seek.stream c.in-Seek.request c.in-Seek.measure) c.args.self.now c.in-Some-grid.grid c.seek.new.self c.seek.result c.in-Some-grid.is c.seek.ensures)
 
 pub returns-in-Some-grid-2 : goal.returns-in-Some-grid-2
 returns-in-Some-grid-2 c =
-    rw c.in-Send.is (on_grid (Sends c.in-Send.stream c.in-Send.strip) c.args.self.now c.in-Some-grid-2.grid c.send.new.self c.send.result c.in-Some-grid-2.is c.send.ensures)
+    rw c.in-Close.is (on_grid (Closes c.in-Close.stream) c.args.self.now c.in-Some-grid-2.grid c.close.new.self c.close.result c.in-Some-grid-2.is c.close.ensures)
 
 pub returns-in-Some-grid-3 : goal.returns-in-Some-grid-3
 returns-in-Some-grid-3 c =
-    rw c.in-Step.is (on_grid (Steps c.in-Step.hop) c.args.self.now c.in-Some-grid-3.grid c.step.new.self c.step.result c.in-Some-grid-3.is c.step.ensures)
+    rw c.in-Send.is (on_grid (Sends c.in-Send.stream c.in-Send.strip) c.args.self.now c.in-Some-grid-3.grid c.send.new.self c.send.result c.in-Some-grid-3.is c.send.ensures)
+
+pub returns-in-Some-grid-4 : goal.returns-in-Some-grid-4
+returns-in-Some-grid-4 c =
+    rw c.in-Step.is (on_grid (Steps c.in-Step.hop) c.args.self.now c.in-Some-grid-4.grid c.step.new.self c.step.result c.in-Some-grid-4.is c.step.ensures)

@@ -2,4 +2,6 @@
 #![tactic(auto)]
 
 #[cfg(test)]
+mod seeks;
+#[cfg(test)]
 mod tests;

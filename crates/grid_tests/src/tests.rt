@@ -15,11 +15,11 @@ use std::fmt::Debug;
 use std::process::Abort;
 use std::test::Fail;
 
-fn hop(link: u16, lane: u8) -> Hop {
+pub(crate) fn hop(link: u16, lane: u8) -> Hop {
     Hop { link, lane }
 }
 
-fn request(source: u16, target: u16, demand: u16) -> Request {
+pub(crate) fn request(source: u16, target: u16, demand: u16) -> Request {
     Request {
         source,
         target,
@@ -46,7 +46,7 @@ fn opened(
 }
 
 // A send and a step, with what they have to answer. A test is proved faster where its calls are made in such functions.
-fn send<T: Copy>(
+pub(crate) fn send<T: Copy>(
     rt: &impl Abort,
     grid: &mut Grid<Mesh>,
     slots: &mut [T],
@@ -56,7 +56,7 @@ fn send<T: Copy>(
     assert_eq!(rt; grid.send(slots, stream, item), answer, "stream {stream}");
 }
 
-fn step<T: Copy + Debug + PartialEq>(
+pub(crate) fn step<T: Copy + Debug + PartialEq>(
     rt: &impl Abort,
     grid: &mut Grid<Mesh>,
     slots: &mut [T],
@@ -264,7 +264,7 @@ fn loaded(heap: Global) -> Result<Grid<Mesh>, Fail> {
     opened(heap, 3, 1, &[(5, request(0, 1, 80), &[hop(0, 0)])])
 }
 
-fn whole(refusal: Refusal) -> Declined {
+pub(crate) fn whole(refusal: Refusal) -> Declined {
     Declined { refusal, hop: None }
 }
 

@@ -11,5 +11,7 @@ mod places;
 mod prepared;
 mod rounds;
 mod search;
+#[cfg(test)]
+mod tests;
 pub mod total;
 mod trace;

@@ -47,19 +47,31 @@ fn seek<M: Measure>(
     assert_eq!(rt; table.get(..count), Some(hops));
 }
 
-// Seeks by the sum and by the largest load, each on a grid of its own, which take the same hops.
-fn takes(
+// Such a seek on a grid of its own, of a mesh, a count of lanes and loads.
+fn takes_by<M: Measure>(
     rt: &impl Abort,
     heap: Global,
     (mesh, lanes, loads): (Mesh, u16, &[(u16, u16)]),
     asked: Request,
+    measure: &M,
+    values: &mut [M::Value],
     hops: &[Hop],
 ) -> Result<(), Fail> {
     let mut grid = loaded(heap, mesh, lanes, loads)?;
-    seek(rt, &mut grid, asked, &Total, &mut [7; 272], hops);
-    let mut grid = loaded(heap, mesh, lanes, loads)?;
-    seek(rt, &mut grid, asked, &Peak, &mut [(7, 7); 272], hops);
+    seek(rt, &mut grid, asked, measure, values, hops);
     Ok(())
+}
+
+// Seeks by the sum and by the largest load, which take the same hops.
+fn takes(
+    rt: &impl Abort,
+    heap: Global,
+    setting: (Mesh, u16, &[(u16, u16)]),
+    asked: Request,
+    hops: &[Hop],
+) -> Result<(), Fail> {
+    takes_by(rt, heap, setting, asked, &Total, &mut [7; 272], hops)?;
+    takes_by(rt, heap, setting, asked, &Peak, &mut [(7, 7); 272], hops)
 }
 
 // From tile 0 to tile 1, next to it: east, and where that link is full, north, east and south.
@@ -219,26 +231,41 @@ fn measures_decide(rt: HostRuntime) -> Result<(), Fail> {
         ),
     ];
     for (loads, target, by_sum, by_largest) in cases {
+        let setting = (mesh, 1, loads);
         let asked = request(0, target, 10);
-        let mut grid = loaded(rt.alloc(), mesh, 1, loads)?;
-        seek(&rt, &mut grid, asked, &Total, &mut [7; 48], by_sum);
-        let mut grid = loaded(rt.alloc(), mesh, 1, loads)?;
-        seek(&rt, &mut grid, asked, &Peak, &mut [(7, 7); 48], by_largest);
+        takes_by(
+            &rt,
+            rt.alloc(),
+            setting,
+            asked,
+            &Total,
+            &mut [7; 48],
+            by_sum,
+        )?;
+        takes_by(
+            &rt,
+            rt.alloc(),
+            setting,
+            asked,
+            &Peak,
+            &mut [(7, 7); 48],
+            by_largest,
+        )?;
         for (is_second, hops) in [(false, by_sum), (true, by_largest)] {
             let either = Choice {
                 first: Total,
                 second: Peak,
                 is_second,
             };
-            let mut grid = loaded(rt.alloc(), mesh, 1, loads)?;
-            seek(
+            takes_by(
                 &rt,
-                &mut grid,
+                rt.alloc(),
+                setting,
                 asked,
                 &either,
                 &mut [Either::First(7); 48],
                 hops,
-            );
+            )?;
         }
     }
     Ok(())
@@ -264,30 +291,47 @@ fn beside_a_large_stream(rt: HostRuntime) -> Result<(), Fail> {
     Ok(())
 }
 
+// That a seek with so much scratch is declined, and leaves stream 5 and the load of its link, and stream 6 closed.
+fn declines(
+    rt: &impl Abort,
+    grid: &mut Grid<Mesh>,
+    (values, marks): (&mut [u32], &mut [u16]),
+    (stream, asked): (u16, Request),
+    refusal: Refusal,
+) {
+    let answer = grid.seek(stream, asked, &Total, values, marks);
+    assert_eq!(rt; answer, Err(whole(refusal)));
+    assert_eq!(rt; grid.stream(5), Ok(request(7, 8, 80)));
+    assert_eq!(rt; grid.stream(6), Err(Refusal::NotOpen));
+    assert_eq!(rt; grid.link_load(5), Ok(80));
+}
+
 // Each fault is told ahead of the later ones, which the same call has too. Stream 5 loads link 5.
 #[test]
 fn seek_refused(rt: HostRuntime) -> Result<(), Fail> {
     let mesh = Mesh::new(TurnRule::Xy, 3, 3)?;
     let mut grid = loaded(rt.alloc(), mesh, 1, &[(5, 80)])?;
+    let none = (64, request(9, 9, 0));
+    let few = Refusal::TooFewSlots;
+    declines(&rt, &mut grid, (&mut [7; 47], &mut [7; 576]), none, few);
+    declines(&rt, &mut grid, (&mut [7; 48], &mut [7; 575]), none, few);
     let faults = [
-        (47, 576, 64, request(9, 9, 0), Refusal::TooFewSlots),
-        (48, 575, 64, request(9, 9, 0), Refusal::TooFewSlots),
-        (48, 576, 64, request(9, 9, 0), Refusal::NoSuchStream),
-        (48, 576, 5, request(9, 9, 0), Refusal::AlreadyOpen),
-        (48, 576, 6, request(9, 8, 0), Refusal::BadEndpoints),
-        (48, 576, 6, request(7, 9, 0), Refusal::BadEndpoints),
-        (48, 576, 6, request(7, 7, 0), Refusal::BadEndpoints),
-        (48, 576, 6, request(7, 8, 0), Refusal::ZeroAmount),
-        (48, 576, 6, request(7, 8, 21), Refusal::NoRoute),
+        (none, Refusal::NoSuchStream),
+        ((5, request(9, 9, 0)), Refusal::AlreadyOpen),
+        ((6, request(9, 8, 0)), Refusal::BadEndpoints),
+        ((6, request(7, 9, 0)), Refusal::BadEndpoints),
+        ((6, request(7, 7, 0)), Refusal::BadEndpoints),
+        ((6, request(7, 8, 0)), Refusal::ZeroAmount),
+        ((6, request(7, 8, 21)), Refusal::NoRoute),
     ];
-    for (values, marks, stream, asked, refusal) in faults {
-        let values = &mut [7; 48][..values];
-        let marks = &mut [7; 576][..marks];
-        let answer = grid.seek(stream, asked, &Total, values, marks);
-        assert_eq!(rt; answer, Err(whole(refusal)));
-        assert_eq!(rt; grid.stream(5), Ok(request(7, 8, 80)));
-        assert_eq!(rt; grid.stream(6), Err(Refusal::NotOpen));
-        assert_eq!(rt; grid.link_load(5), Ok(80));
+    for (asked, refusal) in faults {
+        declines(
+            &rt,
+            &mut grid,
+            (&mut [7; 48], &mut [7; 576]),
+            asked,
+            refusal,
+        );
     }
     let answer = grid.seek(6, request(7, 8, 20), &Total, &mut [7; 48], &mut [7; 576]);
     assert_eq!(rt; answer, Ok(1));

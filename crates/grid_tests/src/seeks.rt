@@ -183,7 +183,7 @@ fn winding_way(rt: HostRuntime) -> Result<(), Fail> {
     Ok(())
 }
 
-// Such a way on the largest mesh: it reaches tile 31 by hop 23, and tile 30 next.
+// Such a way on the largest mesh: 24 hops to tile 31, and 25 to tile 30, for which the lanes would do.
 #[test]
 fn farthest(rt: HostRuntime) -> Result<(), Fail> {
     let mesh = Mesh::new(TurnRule::Xy, 8, 8)?;

@@ -5,12 +5,12 @@ use Rattle.routes.specs.declared.stream.Request.{Request}
 use Rattle.routes.specs.Checks.{Terms}
 use Rattle.routes.specs.Acceptable.{Acceptable}
 use Rattle.search.specs.Scales.{Scale, Ordered}
-use Rattle.search.specs.Best.{measure_of, Best}
+use Rattle.search.specs.Best.{measured, Best}
 use Rattle.examples.specs.Examples.{OnlyBest}
 
 module _ {V : Type 0} (s : Scale V) (ordered : Ordered s) (t : Terms) (q : Request) (hops : List Hop) where
   abbrev measure : List Hop → V
-  measure = measure_of s t q
+  measure = measured s t q
 
   -- a route that measures more
   abbrev pub Worse : List Hop → Type 0

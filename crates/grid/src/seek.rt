@@ -1,20 +1,23 @@
 // Opening a stream on the best route.
 ghost use Rattle.std.specs.Prelude.{◌≡◌, length};
+ghost use Rattle.search.specs.Finds.{values_needed, marks_needed, SameBeyond};
 ghost use Rattle.grid.specs.Seeks.{Seeks};
 
 use crate::grid::Grid;
 use layouts::layout::Layout;
 use routes::declined::Declined;
 use routes::stream::{Request, Stream};
-use search::find::{check_scratch, find};
+use search::find::find;
 use search::measure::Measure;
+use search::scratch::check_scratch;
 
 impl<L: Layout> Grid<L> {
     /// Opens a stream on a best route: one that `open` would take, with the fewest hops, and among those of least measure, where each
     /// hop counts the load of its link with the new demand added. Answers the count of hops.
     ///
-    /// The caller lends scratch for the search: at least two values and 24 marks for each lane of each link. What is in it afterwards
-    /// is left open, and so is which of equally good routes is taken.
+    /// The caller lends scratch for the search: at least two values and 24 marks for each lane of each link (`values_needed`,
+    /// `marks_needed`). What is in it afterwards is left open, and so is which of equally good routes is taken; what is lent beyond it is
+    /// not touched.
     ///
     /// Refuses scratch that is too small by `TooFewSlots`, a number above 63 by `NoSuchStream`, an open stream by `AlreadyOpen`, fields
     /// by `BadEndpoints` and `ZeroAmount`, and says `NoRoute` exactly where `open` would take no route.
@@ -28,6 +31,8 @@ impl<L: Layout> Grid<L> {
     ) -> Result<usize, Declined>
         ensures made { Seeks (M.scale measure.now) (L.meaning self.old.layout) self.old.tables stream request (length values.old) (length marks.old) result self.new.tables }
         ensures layout { self.new.layout ≡ self.old.layout }
+        ensures values { SameBeyond (values_needed (L.meaning self.old.layout).links self.old.tables.lanes.size.lanes) values.old values.new }
+        ensures marks { SameBeyond (marks_needed (L.meaning self.old.layout).links self.old.tables.lanes.size.lanes) marks.old marks.new }
     {
         let limits = self.tables.limits();
         check_scratch(self.layout.links(), limits.lanes, values.len(), marks.len())?;

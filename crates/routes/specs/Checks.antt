@@ -13,7 +13,7 @@ use Rattle.routes.specs.declared.hop.Hop.{Hop}
 use Rattle.routes.specs.declared.judge.Limits.{Limits}
 use Rattle.routes.specs.declared.stream.Request.{Request}
 use Rattle.routes.specs.Firsts.{first_of, first_below}
-use Rattle.routes.specs.Routes.{count_fits, hop_at, is_on_grid, streams_of, uses}
+use Rattle.routes.specs.Routes.{OpenStream, count_fits, hop_at, is_on_grid, streams_of, uses}
 use Rattle.routes.specs.Loads.{load}
 
 -- What a route is judged by: the layout, how many lanes a link has, what it can bear, and the load of each link.
@@ -23,8 +23,12 @@ pub record Terms : Type 0 where
   pub capacity : ℕ
   pub load : ℕ → ℕ
 
+-- with so many lanes to a link, one capacity, and the load of each link by the open streams
+abbrev pub terms_on : Meaning → ℕ → ℕ → (ℕ → Option OpenStream) → Terms
+terms_on m lanes capacity streams = record { layout = m; lanes = lanes; capacity = capacity; load = load streams }
+
 abbrev pub terms_of : Meaning → Limits → Terms
-terms_of m limits = record { layout = m; lanes = limits.lanes; capacity = limits.capacity; load = load (streams_of limits.streams.now) }
+terms_of m limits = terms_on m limits.lanes limits.capacity (streams_of limits.streams.now)
 
 -- a refusal that tells no hop
 abbrev pub no_hop : Refusal → Declined

@@ -18,6 +18,10 @@ count_fits hops = nat_lt 0 (length hops) && nat_le (length hops) 24
 abbrev pub hop_on : ℕ → ℕ → Hop
 hop_on link lane = record { link = link; lane = lane }
 
+-- a link has 1 to 4 lanes
+abbrev pub lanes_allowed : ℕ → Bool
+lanes_allowed lanes = nat_le 1 lanes && nat_le lanes 4
+
 -- hop k of a route, counted from 0
 abbrev pub hop_at : List Hop → ℕ → Hop
 hop_at hops k = slice_index_or hops k (hop_on 0 0)

@@ -13,17 +13,17 @@ use Rattle.model.specs.Slots.{slots_after, slots_left}
 use Rattle.model.specs.Outlines.{without_items}
 use Rattle.model.specs.Law.{Keeps}
 use Rattle.search.specs.Scales.{Scale}
+use Rattle.search.specs.Seeks.{SeekFinds, SeekBy}
 use Rattle.lanes.specs.Blanks.{blank_queues}
 use Rattle.grid.specs.declared.tables.Tables.{Tables}
 use Rattle.grid.specs.Views.{streams_in, with_streams, view, slots_alike, outline, setting}
 use Rattle.grid.specs.Makes.{Same, Makes}
 use Rattle.grid.specs.Blank.{BlankTables}
-use Rattle.grid.specs.Seeks.{SeekFinds}
+use Rattle.grid.specs.Seeks.{SeekFindsIn}
 use Rattle.runs.specs.declared.call.Call.{Call}
 use Rattle.runs.specs.declared.call.Call.TheVariants.{Open, Seek, Close, Send, Step}
 use Rattle.runs.specs.declared.call.Reply.{Reply}
-use Rattle.runs.specs.declared.call.Reply.TheVariants.{Done, Found, Stepped}
-use Rattle.runs.specs.Calls.{reply, Shown, Answers, Searches, MakesCall}
+use Rattle.runs.specs.Calls.{reply, seek_reply, Shown, Answers, MakesCall}
 use Rattle.runs.specs.Runs.{Conditions, setting_of, Follows, CallFollows, Leads, LeftBy}
 use Rattle.runs.proofs.Showing.{length-slots_after}
 
@@ -114,28 +114,27 @@ module _ {M V T : Type 0} (R : Conditions M V) where
     }
 
     finds : {W : Type 0} (s : Scale W) (n : ℕ) (q : Request) (values marks : ℕ) (r : Result (List Hop) Declined)
-        → SeekFinds s R.layout t.lanes.size.lanes t.capacity (streams_in t) n q values marks r → SeekFinds s R.layout R.lanes R.capacity (after (S R) past).streams n q values marks r
+        → SeekFindsIn s R.layout t n q values marks r → SeekFinds s R.layout R.lanes R.capacity (after (S R) past).streams n q values marks r
     finds s n q values marks r found =
         subst (λ streams. SeekFinds s R.layout R.lanes R.capacity streams n q values marks r) streams_are (rw (lanes_are, left.has_capacity) at found)
 
-    searched : (n : ℕ) (q : Request) (measure : M) (r : Result (Reply T) Declined) → Searches (R.scale measure) R.values R.marks R.layout t xs' n q r t' xs'' → Shown t' xs''
-        → OneMore (Seek n q measure) r
-    searched n q measure (Ok Done) makes shown = absurd makes
-    searched n q measure (Ok (Stepped s)) makes shown = absurd makes
-    searched n q measure (Ok (Found count)) makes shown = record {
-      next = past ▸ opens n q makes.0;
-      follows = (makes.0, makes.1, finds (R.scale measure) n q R.values R.marks (Ok makes.0) makes.2, refl);
-      remains = left_more (opens n q makes.0) done makes.3 shown;
+    searched : (n : ℕ) (q : Request) (measure : M) (r : Result (Reply T) Declined) (a : Result ℕ Declined)
+        → SeekBy (SeekFindsIn (R.scale measure) R.layout t n q R.values R.marks) (λ hops. Makes R.layout t xs' (opens n q hops) done t' xs'') (Same t t' × (xs'' ≡ xs')) a
+        → r ≡ seek_reply a → Shown t' xs'' → OneMore (Seek n q measure) r
+    searched n q measure r (Ok count) found is shown = record {
+      next = past ▸ opens n q found.0;
+      follows = (Ok count, (found.0, found.1, finds (R.scale measure) n q R.values R.marks (Ok found.0) found.2, refl), is);
+      remains = left_more (opens n q found.0) done found.3 shown;
     }
-    searched n q measure (Err d) makes shown = record {
+    searched n q measure r (Err d) found is shown = record {
       next = past;
-      follows = (finds (R.scale measure) n q R.values R.marks (Err d) makes.0, refl);
-      remains = left_same makes.1 makes.2;
+      follows = (Err d, (finds (R.scale measure) n q R.values R.marks (Err d) found.0, refl), is);
+      remains = left_same found.1.0 found.1.1;
     }
 
     pub one_more : (c : Call T M) (r : Result (Reply T) Declined) → MakesCall R.scale R.values R.marks R.layout t xs' c r t' xs'' → Shown t' xs'' → OneMore c r
     one_more (Open n q hops) r makes shown = answered (Open n q hops) (opens n q (vec_items hops)) r (λ next follows. follows) makes shown
-    one_more (Seek n q measure) r makes shown = searched n q measure r makes shown
+    one_more (Seek n q measure) r makes shown = searched n q measure r makes.0 makes.1 makes.2 shown
     one_more (Close n) r makes shown = answered (Close n) (closes n) r (λ next follows. follows) makes shown
     one_more (Send n x) r makes shown = answered (Send n x) (sends n x) r (λ next follows. follows) makes shown
     one_more (Step h) r makes shown = answered (Step h) (steps h.link h.lane) r (λ next follows. follows) makes shown

@@ -1,18 +1,17 @@
 -- Calls and answers as those of the grid in words.
-use Rattle.std.specs.Prelude.{◌≡◌, ℕ, List, length, Ok, Err, Result, vec_items}
+use Rattle.std.specs.Prelude.{◌≡◌, ℕ, List, Ok, Err, Result, vec_items}
 use Rattle.layouts.specs.Layout.{Meaning}
 use Rattle.routes.specs.declared.declined.Declined.{Declined}
-use Rattle.routes.specs.declared.hop.Hop.{Hop}
 use Rattle.routes.specs.declared.stream.Request.{Request}
 use Rattle.model.specs.Calls.{Call as GridCall, opens, closes, sends, steps, Answer, declined, done, moved, out}
 use Rattle.model.specs.Outlines.{without_items}
 use Rattle.search.specs.Scales.{Scale}
+use Rattle.search.specs.Seeks.{SeekBy}
 use Rattle.lanes.specs.Queues.{queues_of, outline}
 use Rattle.grid.specs.declared.step.Step.TheVariants.{Moved, Out}
 use Rattle.grid.specs.declared.tables.Tables.{Tables}
-use Rattle.grid.specs.Views.{streams_in}
 use Rattle.grid.specs.Makes.{Same, Makes}
-use Rattle.grid.specs.Seeks.{SeekFinds}
+use Rattle.grid.specs.Seeks.{SeekFindsIn}
 use Rattle.runs.specs.declared.call.Call.{Call}
 use Rattle.runs.specs.declared.call.Call.TheVariants.{Open, Seek, Close, Send, Step}
 use Rattle.runs.specs.declared.call.Reply.{Reply}
@@ -25,6 +24,11 @@ reply done = Ok Done
 reply (moved n) = Ok (Stepped (Moved n))
 reply (out n x) = Ok (Stepped (Out n x))
 
+-- the reply to a seek
+abbrev pub seek_reply : {T : Type 0} → Result ℕ Declined → Result (Reply T) Declined
+seek_reply (Ok count) = Ok (Found count)
+seek_reply (Err d) = Err d
+
 -- What tables and slots show is, without the items, the outline: so it is where the slots are enough for all lanes, and where
 -- no lane contains an item.
 abbrev pub Shown : {T : Type 0} → Tables → List T → Type 0
@@ -34,14 +38,10 @@ Shown t slots = without_items (queues_of t.lanes slots) ≡ outline t.lanes
 abbrev pub Answers : {T : Type 0} → Meaning → Tables → List T → GridCall T → Result (Reply T) Declined → Tables → List T → Type 0
 Answers {T} m t xs c r t' xs' = (a : Answer T) × Makes m t xs c a t' xs' × (r ≡ reply a)
 
--- A seek, with so much scratch lent, opens a stream on the route that it finds, or changes nothing.
+-- a seek, with so much scratch lent, opens a stream on the route that it finds, or changes nothing
 abbrev pub Searches : {T V : Type 0} → Scale V → ℕ → ℕ → Meaning → Tables → List T → ℕ → Request → Result (Reply T) Declined → Tables → List T → Type 0
-Searches s values marks m t xs n q (Ok Done) t' xs' = ⊥
-Searches s values marks m t xs n q (Ok (Found count)) t' xs' =
-    (hops : List Hop) × (count ≡ length hops) × SeekFinds s m t.lanes.size.lanes t.capacity (streams_in t) n q values marks (Ok hops) × Makes m t xs (opens n q hops) done t' xs'
-Searches s values marks m t xs n q (Ok (Stepped step)) t' xs' = ⊥
-Searches s values marks m t xs n q (Err d) t' xs' =
-    SeekFinds s m t.lanes.size.lanes t.capacity (streams_in t) n q values marks (Err d) × Same t t' × (xs' ≡ xs)
+Searches s values marks m t xs n q r t' xs' =
+    (a : Result ℕ Declined) × SeekBy (SeekFindsIn s m t n q values marks) (λ hops. Makes m t xs (opens n q hops) done t' xs') (Same t t' × (xs' ≡ xs)) a × (r ≡ seek_reply a)
 
 -- each call, where measures count in these scales
 abbrev pub MakesCall : {T V M : Type 0} → (M → Scale V) → ℕ → ℕ → Meaning → Tables → List T → Call T M → Result (Reply T) Declined → Tables → List T → Type 0

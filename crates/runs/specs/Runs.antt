@@ -1,8 +1,7 @@
 -- What a list of calls on a grid that starts blank answers and leaves.
-use Rattle.std.specs.Prelude.{◌≡◌, ℕ, List, [], ◌∷◌, length, None, Ok, Err, Result, vec_items}
+use Rattle.std.specs.Prelude.{◌≡◌, ℕ, List, [], ◌∷◌, None, Result, vec_items}
 use Rattle.layouts.specs.Layout.{Meaning}
 use Rattle.routes.specs.declared.declined.Declined.{Declined}
-use Rattle.routes.specs.declared.hop.Hop.{Hop}
 use Rattle.routes.specs.declared.stream.Request.{Request}
 use Rattle.model.specs.Grid.{Setting}
 use Rattle.model.specs.Calls.{Call as GridCall, opens, closes, sends, steps}
@@ -12,15 +11,14 @@ use Rattle.model.specs.Outlines.{without_items}
 use Rattle.model.specs.Slots.{slots_left}
 use Rattle.model.specs.Law.{Keeps}
 use Rattle.search.specs.Scales.{Scale}
+use Rattle.search.specs.Seeks.{SeekFinds, SeekBy}
 use Rattle.grid.specs.declared.tables.Tables.{Tables}
 use Rattle.grid.specs.Blank.{making_refusal}
-use Rattle.grid.specs.Seeks.{SeekFinds}
 use Rattle.grid.specs.Views.{view, outline}
 use Rattle.runs.specs.declared.call.Call.{Call}
 use Rattle.runs.specs.declared.call.Call.TheVariants.{Open, Seek, Close, Send, Step}
 use Rattle.runs.specs.declared.call.Reply.{Reply}
-use Rattle.runs.specs.declared.call.Reply.TheVariants.{Done, Found, Stepped}
-use Rattle.runs.specs.Calls.{reply}
+use Rattle.runs.specs.Calls.{reply, seek_reply}
 
 -- The conditions of a run: the layout and the sizes of the grid, how many slots, measure values and marks are lent, and what
 -- the measures of its seeks count in.
@@ -56,12 +54,9 @@ Follows R past c r next = (r ≡ reply (answer_to (setting_of R) past c)) × (ne
 -- What a seek answers after a past. One that is not declined is the opening of the stream on the route that it finds, a best one; one
 -- that is declined has not been.
 abbrev pub SeekFollows : {M V T : Type 0} → Conditions M V → Scale V → History T → ℕ → Request → Result (Reply T) Declined → History T → Type 0
-SeekFollows R s past n q (Ok Done) next = ⊥
-SeekFollows R s past n q (Ok (Found count)) next =
-    (hops : List Hop) × (count ≡ length hops) × SeekFinds s R.layout R.lanes R.capacity (after (setting_of R) past).streams n q R.values R.marks (Ok hops) × (next ≡ past ▸ opens n q hops)
-SeekFollows R s past n q (Ok (Stepped step)) next = ⊥
-SeekFollows R s past n q (Err d) next =
-    SeekFinds s R.layout R.lanes R.capacity (after (setting_of R) past).streams n q R.values R.marks (Err d) × (next ≡ past)
+SeekFollows R s past n q r next =
+    (a : Result ℕ Declined) × SeekBy (SeekFinds s R.layout R.lanes R.capacity (after (setting_of R) past).streams n q R.values R.marks)
+    (λ hops. next ≡ past ▸ opens n q hops) (next ≡ past) a × (r ≡ seek_reply a)
 
 -- what each call answers after a past, and the past of the next call
 abbrev pub CallFollows : {M V T : Type 0} → Conditions M V → History T → Call T M → Result (Reply T) Declined → History T → Type 0

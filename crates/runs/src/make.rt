@@ -1,5 +1,6 @@
 // Making a call.
 ghost use Rattle.std.specs.Prelude.{◌≡◌, length};
+ghost use Rattle.search.specs.Finds.{values_needed, marks_needed, SameBeyond};
 ghost use Rattle.runs.specs.Calls.{MakesCall, Shown};
 
 use crate::call::{Answer, Call, Reply};
@@ -19,6 +20,8 @@ pub(crate) fn make<L: Layout, T: Copy, M: Measure>(
     ensures made { MakesCall (λ measure. M.scale measure) (length values.old) (length marks.old) (L.meaning grid.old.layout) grid.old.tables slots.old call.now result grid.new.tables slots.new }
     ensures layout { grid.new.layout ≡ grid.old.layout }
     ensures shown { Shown grid.new.tables slots.new }
+    ensures values { SameBeyond (values_needed (L.meaning grid.old.layout).links grid.old.tables.lanes.size.lanes) values.old values.new }
+    ensures marks { SameBeyond (marks_needed (L.meaning grid.old.layout).links grid.old.tables.lanes.size.lanes) marks.old marks.new }
 {
     match call {
         Call::Open(stream, request, hops) => {

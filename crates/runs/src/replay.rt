@@ -1,5 +1,6 @@
 // Replaying a list of calls.
 ghost use Rattle.std.specs.Prelude.{◌≡◌, length, IfOk, IfErr};
+ghost use Rattle.search.specs.Finds.{values_needed, marks_needed, SameBeyond};
 ghost use Rattle.grid.specs.Blank.{NotMade};
 ghost use Rattle.runs.specs.Runs.{conditions, Replays};
 
@@ -20,7 +21,8 @@ pub struct Run<L: Layout, T> {
 }
 
 /// Makes calls one after another on a grid that starts blank, with these slots lent, enough or not, and records each answer. Seeks
-/// are lent the scratch; what is in it afterwards is left open, and so is which of equally good routes a seek takes.
+/// are lent the scratch; what is in it afterwards is left open, and so is which of equally good routes a seek takes. What is lent beyond
+/// the scratch of the grid is not touched.
 ///
 /// The contract is what this project is for: whatever the calls, everything let in comes out, in order, a step is possible
 /// exactly while something is on the grid, and the count of steps is known ahead.
@@ -39,6 +41,8 @@ pub fn replay<L: Layout + Drop, T: Copy, M: Measure>(
 ) -> Result<Run<L, T>, MakeError>
     ensures run { let R = conditions (L.meaning layout) lanes depth capacity (length slots.old) (length values.old) (length marks.old) (λ measure. M.scale measure) in IfOk result (λ run. Replays R slots.old calls.now run.answers.items run.grid.tables slots.new) }
     ensures layout { IfOk result (λ run. run.grid.layout ≡ layout) }
+    ensures values { SameBeyond (values_needed (L.meaning layout).links lanes) values.old values.new }
+    ensures marks { SameBeyond (marks_needed (L.meaning layout).links lanes) marks.old marks.new }
     ensures refused { IfErr result (λ e. NotMade lanes depth capacity e × (slots.new ≡ slots.old)) }
 {
     // computes nothing: it hands the law to the proof

@@ -15,7 +15,7 @@ use Rattle.routes.specs.Routes.{hops_of, hop_on, hop_at}
 use Rattle.routes.specs.Checks.{Terms, no_hop, unless, field_checks}
 use Rattle.routes.specs.Acceptable.{Acceptable}
 use Rattle.search.specs.Scales.{Scale}
-use Rattle.search.specs.Best.{extended, load_with, measure_of, Best, NoneAcceptable}
+use Rattle.search.specs.Best.{extended, load_with, measured, Best, NoneAcceptable}
 use Rattle.search.specs.Walks.{Problem, cost_of, problem_of, Usable, Follows, Walk, Arrives, value_of, NoneWithin, back, BestWalk, FindsWalk}
 use Rattle.search.specs.Finds.{Finds}
 use Rattle.search.proofs.Walking.{raise}
@@ -148,7 +148,7 @@ module _ (t : Terms) (q : Request) where
         rw (value_front n (omega arith) (λ k less. usable k (omega arith)), (costs (hop_at hops n).link (usable n (omega arith)).bears).is, more)
         (sym (extended-snoc s (load_with t q) s.start (take n hops) (hop_at hops n)))
 
-    measures : Walk P (back (hop_at hops) (length hops)) → value_of s P (back (hop_at hops) (length hops)) ≡ measure_of s t q hops
+    measures : Walk P (back (hop_at hops) (length hops)) → value_of s P (back (hop_at hops) (length hops)) ≡ measured s t q hops
     measures is = value_front (length hops) (omega arith) (each is) ∙ ap (extended s (load_with t q) s.start) (take_all (length hops) hops (omega arith))
       where
         each : Walk P (back (hop_at hops) (length hops)) → (k : ℕ) → k < length hops → Usable P (hop_at hops k)

@@ -15,14 +15,15 @@ extended s load v (h ∷ hops) = extended s load (s.extend v (load h.link)) hops
 abbrev pub load_with : Terms → Request → ℕ → ℕ
 load_with t q link = t.load link + q.demand
 
-abbrev pub measure_of : {V : Type 0} → Scale V → Terms → Request → List Hop → V
-measure_of s t q hops = extended s (load_with t q) s.start hops
+-- what a route measures
+abbrev pub measured : {V : Type 0} → Scale V → Terms → Request → List Hop → V
+measured s t q hops = extended s (load_with t q) s.start hops
 
 -- An acceptable route with the fewest hops, and among those of least measure.
 pub record Best {V : Type 0} (s : Scale V) (t : Terms) (q : Request) (hops : List Hop) : Type 0 where
   pub acceptable : Acceptable t q hops
   pub fewest : (other : List Hop) → Acceptable t q other → length hops ≤ length other
-  pub least : (other : List Hop) → Acceptable t q other → length other ≡ length hops → s.not_above (measure_of s t q hops) (measure_of s t q other) ≡ true
+  pub least : (other : List Hop) → Acceptable t q other → length other ≡ length hops → s.not_above (measured s t q hops) (measured s t q other) ≡ true
 
 abbrev pub NoneAcceptable : Terms → Request → Type 0
 NoneAcceptable t q = (hops : List Hop) → Acceptable t q hops → ⊥

@@ -1,16 +1,16 @@
 // The search.
-ghost use Rattle.std.specs.Prelude.{◌≡◌, ◌*◌, ◌≤◌, cond, length, Ok, Err};
+ghost use Rattle.std.specs.Prelude.{◌≡◌, ◌*◌, ◌≤◌, length};
 ghost use Rattle.std.specs.Result.{result_map_both};
-ghost use Rattle.refusals.specs.declared.refusal.Refusal.TheVariants.{TooFewSlots};
 ghost use Rattle.routes.specs.Routes.{hops_of};
 ghost use Rattle.routes.specs.Checks.{terms_of};
-ghost use Rattle.search.specs.Finds.{enough_scratch, search_refusal, Finds};
+ghost use Rattle.search.specs.Finds.{values_needed, marks_needed, SameBeyond, search_refusal, Finds};
 ghost use Rattle.search.specs.Walks.{problem_in, places, FindsWalk};
 
 use crate::costs::costs;
 use crate::incoming::Incoming;
 use crate::measure::Measure;
 use crate::prepared::Prepared;
+use crate::scratch::{check_scratch, marks_needed, values_needed};
 use crate::search::Search;
 use layouts::layout::Layout;
 use refusals::refusal::Refusal;
@@ -18,17 +18,6 @@ use routes::declined::Declined;
 use routes::judge::{Limits, judge_fields};
 use routes::route::Route;
 use routes::stream::Request;
-
-/// That the scratch of a search is enough: two values and 24 marks for each lane of each link. Refuses less by `TooFewSlots`.
-pub fn check_scratch(links: u16, lanes: u16, values: usize, marks: usize) -> Result<(), Refusal>
-    ensures { result ≡ cond (enough_scratch links lanes values marks) (Ok tt) (Err TooFewSlots) }
-{
-    let places = links as usize * lanes as usize;
-    if values < 2 * places || marks < 24 * places {
-        return Err(Refusal::TooFewSlots);
-    }
-    Ok(())
-}
 
 impl<L: Layout, M: Measure> Search<'_, L, M> {
     // The route of a walk that arrives with the fewest hops, and among those of least measure, if any walk of at most 24 hops
@@ -51,7 +40,7 @@ impl<L: Layout, M: Measure> Search<'_, L, M> {
 }
 
 /// Searches for the best route of a request: one of the acceptable routes with the fewest hops, and among those of least measure.
-/// Which of equally good ones is found, and the scratch afterwards, are left open.
+/// Which of equally good ones is found, and the scratch afterwards, are left open; what is lent beyond the scratch is not touched.
 ///
 /// The search goes by rounds: the first finds for each lane of each link whether a walk of one hop ends there, the next one
 /// whether one of two hops does, and so on, with the least value of any such walk; a link may stand twice in a walk. The first
@@ -68,12 +57,15 @@ pub fn find<L: Layout, M: Measure>(
     values: &mut [M::Value],
     marks: &mut [u16],
 ) -> Result<Route, Declined>
-    ensures { let t = terms_of (L.meaning layout.now) limits.entry in Finds (search_refusal t request (length values.old) (length marks.old)) (M.scale measure.now) t request (result_map_both hops_of (λ d. d) result) }
+    ensures found { let t = terms_of (L.meaning layout.now) limits.entry in Finds (search_refusal t request (length values.old) (length marks.old)) (M.scale measure.now) t request (result_map_both hops_of (λ d. d) result) }
+    ensures values { SameBeyond (values_needed (L.meaning layout.now).links limits.entry.lanes) values.old values.new }
+    ensures marks { SameBeyond (marks_needed (L.meaning layout.now).links limits.entry.lanes) marks.old marks.new }
 {
     if limits.lanes < 1 || limits.lanes > 4 {
         return Err(Refusal::GridSize.into());
     }
-    check_scratch(layout.links(), limits.lanes, values.len(), marks.len())?;
+    let links = layout.links();
+    check_scratch(links, limits.lanes, values.len(), marks.len())?;
     judge_fields(layout, request)?;
     let search = Search {
         layout,
@@ -85,5 +77,7 @@ pub fn find<L: Layout, M: Measure>(
             incoming: Incoming::of(layout),
         },
     };
+    let values = &mut values[..values_needed(links, limits.lanes)];
+    let marks = &mut marks[..marks_needed(links, limits.lanes)];
     search.best(values, marks).ok_or(Refusal::NoRoute.into())
 }

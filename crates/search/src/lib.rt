@@ -10,6 +10,7 @@ pub mod peak;
 mod places;
 mod prepared;
 mod rounds;
+pub mod scratch;
 mod search;
 #[cfg(test)]
 mod tests;

@@ -1,8 +1,9 @@
 // The measures at their limits, and one search.
 use crate::choice::{Choice, Either};
-use crate::find::{check_scratch, find};
+use crate::find::find;
 use crate::measure::Measure;
 use crate::peak::Peak;
+use crate::scratch::{check_scratch, marks_needed, values_needed};
 use crate::total::Total;
 use layouts::mesh::Mesh;
 use layouts::turn_rule::TurnRule;
@@ -91,6 +92,7 @@ fn scratch_one_too_small(rt: HostRuntime) {
         (256, 4, 2048, 24_576, Ok(())),
         (256, 4, 2047, 24_576, few),
     ];
+    assert_eq!(rt; (values_needed(256, 4), marks_needed(256, 4)), (2048, 24_576));
     for (links, lanes, values, marks, answer) in scratch {
         assert_eq!(rt; check_scratch(links, lanes, values, marks), answer);
     }

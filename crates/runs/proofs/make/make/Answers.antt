@@ -1,4 +1,4 @@
-use Rattle.std.proofs.Common.{Some, None, refl, vec_items}
+use Rattle.std.proofs.Common.{Some, None, Ok, refl, vec_items}
 use Rattle.std.proofs.lemmas.Result.{err_from_is_err_and}
 use Rattle.routes.specs.Checks.{no_hop}
 use Rattle.model.specs.Calls.{declined, done}
@@ -18,8 +18,11 @@ returns-in_ok-open-in-Open-clause-made g c =
 pub returns-in_ok-hops-in-Seek-clause-made : goal.returns-in_ok-hops-in-Seek-clause-made
 returns-in_ok-hops-in-Seek-clause-made g c =
     let found = c.in_ok-hops-in-Seek.ensures.made in
-    rw c.in-Seek.is
-    (found.0, found.1, found.2, opened _ c.args.grid.now.tables c.seek.new.self.tables c.args.slots.now c.in-Seek.stream None c.in-Seek.request found.0 found.3)
+    rw c.in-Seek.is (
+      Ok c.in_ok-hops-in-Seek.hops,
+      (found.0, found.1, found.2, opened _ c.args.grid.now.tables c.seek.new.self.tables c.args.slots.now c.in-Seek.stream None c.in-Seek.request found.0 found.3),
+      refl,
+    )
 
 pub returns-in_err-open-in-Open-clause-made : goal.returns-in_err-open-in-Open-clause-made
 returns-in_err-open-in-Open-clause-made g c =

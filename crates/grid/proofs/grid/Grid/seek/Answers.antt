@@ -15,15 +15,15 @@ pub put-requires-clause-placed : goal.put-requires-clause-placed
 put-requires-clause-placed g c = λ s is.
     let grid = c.args.self.now in
     subst (λ (stream : Stream). list_all (holds grid.tables.lanes.size) (hops_of stream.route) ≡ true) (same_Some _ _ is)
-    (acceptable_holds grid.tables.lanes.size _ c.args.request _ grid.fits c.limits-limits.ensures.lanes c.in_ok-route.ensures.1.acceptable)
+    (acceptable_holds grid.tables.lanes.size _ c.args.request _ grid.fits c.limits-limits.ensures.lanes c.in_ok-route.ensures.found.1.acceptable)
 
 pub returns-clause-made : goal.returns-clause-made
 returns-clause-made g c =
     let grid = c.args.self.now in
     let m = g.L.Layout.meaning grid.layout in
     let limits = c.limits-limits.ensures in
-    let free = rw limits.lanes at c.in_ok-route.ensures.0 in
-    let best = rw (limits.lanes, limits.capacity, limits.streams) at c.in_ok-route.ensures.1 in (
+    let free = rw limits.lanes at c.in_ok-route.ensures.found.0 in
+    let best = rw (limits.lanes, limits.capacity, limits.streams) at c.in_ok-route.ensures.found.1 in (
       hops_of c.in_ok-route.route,
       ap length c.hops.ensures,
       (none_declines _ _ _ _ free (ap declines (sym c.in_ok-vacant.ensures)), best),

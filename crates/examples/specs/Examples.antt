@@ -1,22 +1,26 @@
 -- Worked examples. A mesh is 2 × 2 or 3 × 3, under the rule XY if no other one is told.
-use Rattle.std.specs.Prelude.{◌≡◌, ℕ, List, [], ◌∷◌, Some, None, Option}
+use Rattle.std.specs.Prelude.{◌≡◌, ℕ, List, [], ◌∷◌, Some, None, Ok, Err, Option, Result}
+use Rattle.refusals.specs.declared.refusal.Refusal.TheVariants.{NoRoute}
 use Rattle.refusals.specs.Numbers.{refusal_number}
 use Rattle.layouts.specs.Layout.{Meaning}
 use Rattle.layouts.specs.Mesh.{mesh_meaning}
 use Rattle.layouts.specs.declared.turn.Turn.TheVariants.{Never, Free, Climb}
 use Rattle.layouts.specs.declared.turn_rule.TurnRule.{TurnRule}
 use Rattle.layouts.specs.declared.turn_rule.TurnRule.TheVariants.{Xy, NegativeFirst}
+use Rattle.routes.specs.declared.declined.Declined.{Declined}
 use Rattle.routes.specs.declared.hop.Hop.{Hop}
 use Rattle.routes.specs.declared.stream.Request.{Request}
+use Rattle.routes.specs.declared.stream.Request.{Request}
 use Rattle.routes.specs.Routes.{hop_on}
-use Rattle.routes.specs.Checks.{Terms}
+use Rattle.routes.specs.Checks.{no_hop}
 use Rattle.model.specs.Grid.{Setting}
 use Rattle.model.specs.Sums.{hops_ahead}
 use Rattle.model.specs.Calls.{Call, opens, closes, sends, steps, Answer, declined, done, moved, out}
-use Rattle.model.specs.Layouts.{terms_on, on_layout}
+use Rattle.model.specs.Layouts.{on_layout}
 use Rattle.model.specs.Runs.{History, start, ◌▸◌, after, answer_to, handed_out_since}
 use Rattle.search.specs.Scales.{Scale, total, peak}
-use Rattle.search.specs.Best.{Best, NoneAcceptable}
+use Rattle.search.specs.Finds.{values_needed, marks_needed}
+use Rattle.search.specs.Seeks.{SeekFinds}
 
 abbrev pub small : Meaning
 small = mesh_meaning Xy 2 2
@@ -90,11 +94,7 @@ ShortRun =
     × (handed_out_since narrow 7 all_out ≡ 50 ∷ (51 ∷ []))
     × (answer_to narrow all_out (closes 7) ≡ done)
 
--- Best routes on the 3 × 3 mesh, from tile 0 to tile 4 in its middle. They are judged beside the streams that are open after
--- some calls.
-abbrev pub terms_after : TurnRule → ℕ → History ℕ → Terms
-terms_after rule lanes past = terms_on (mesh_meaning rule 3 3) lanes 100 (after (square rule lanes) past).streams
-
+-- Seeks on the 3 × 3 mesh, from tile 0 to tile 4 in its middle, for stream 5, beside the streams that are open after some calls.
 abbrev pub to_middle : ℕ → Request
 to_middle demand = record { source = 0; target = 4; demand = demand }
 
@@ -102,17 +102,25 @@ to_middle demand = record { source = 0; target = 4; demand = demand }
 abbrev pub round : ℕ → List Hop
 round lane = hop_on 12 0 ∷ (hop_on 2 lane ∷ [])
 
--- a best route, where no other route is best
-abbrev pub OnlyBest : {V : Type 0} → Scale V → Terms → Request → List Hop → Type 0
-OnlyBest s t q hops = Best s t q hops × ((other : List Hop) → Best s t q other → other ≡ hops)
+-- what such a seek may find, with all the scratch that it needs
+abbrev pub Found : {V : Type 0} → Scale V → TurnRule → ℕ → History ℕ → Request → Result (List Hop) Declined → Type 0
+Found s rule lanes past q r =
+    let m : Meaning = mesh_meaning rule 3 3 in
+    SeekFinds s m lanes 100 (after (square rule lanes) past).streams 5 q (values_needed m.links lanes) (marks_needed m.links lanes) r
 
--- With the stream of demand 80 open, links 0 and 13 cannot bear 30 more, and the other way has to climb. So there is no
--- route with one lane, and with two lanes there is one of two hops.
+-- it finds this, and nothing else
+abbrev pub OnlyFinds : {V : Type 0} → Scale V → TurnRule → ℕ → History ℕ → Request → Result (List Hop) Declined → Type 0
+OnlyFinds s rule lanes past q expected =
+    Found s rule lanes past q expected × ((r : Result (List Hop) Declined) → Found s rule lanes past q r → r ≡ expected)
+
+-- With the stream of demand 80 open, links 0 and 13 cannot bear 30 more, and the other way has to climb. So with one lane a seek says
+-- that there is no route, and with two lanes it goes the other way.
 abbrev pub LoadedSeeks : Type 0
 LoadedSeeks =
-    NoneAcceptable (terms_after Xy 1 loaded) (to_middle 30)
-    × OnlyBest total (terms_after Xy 2 loaded) (to_middle 30) (round 1)
-    × OnlyBest peak (terms_after Xy 2 loaded) (to_middle 30) (round 1)
+    (refusal_number NoRoute ≡ 17)
+    × OnlyFinds total Xy 1 loaded (to_middle 30) (Err (no_hop NoRoute))
+    × OnlyFinds total Xy 2 loaded (to_middle 30) (Ok (round 1))
+    × OnlyFinds peak Xy 2 loaded (to_middle 30) (Ok (round 1))
 
 -- Under the rule negative-first neither way has to climb. Link 0 has a load of 40 and link 13 none, links 12 and 2 have one
 -- of 30 each: the first way has the least sum of loads, and the other one the lowest peak.
@@ -122,8 +130,7 @@ shared =
 
 abbrev pub SharedSeeks : Type 0
 SharedSeeks =
-    OnlyBest total (terms_after NegativeFirst 1 shared) (to_middle 10) corner
-    × OnlyBest peak (terms_after NegativeFirst 1 shared) (to_middle 10) (round 0)
+    OnlyFinds total NegativeFirst 1 shared (to_middle 10) (Ok corner) × OnlyFinds peak NegativeFirst 1 shared (to_middle 10) (Ok (round 0))
 
 abbrev pub WorkedExamples : Type 0
 WorkedExamples = SmallTurns × SmallRoutes × LoadedOpenings × ShortRun × LoadedSeeks × SharedSeeks

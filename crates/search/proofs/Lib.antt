@@ -7,3 +7,4 @@ pub mod Filling
 pub mod Tracing
 pub mod Arriving
 pub mod Accepting
+pub mod Choices

@@ -92,7 +92,10 @@ fn scratch_one_too_small(rt: HostRuntime) {
         (256, 4, 2048, 24_576, Ok(())),
         (256, 4, 2047, 24_576, few),
     ];
-    assert_eq!(rt; (values_needed(256, 4), marks_needed(256, 4)), (2048, 24_576));
+    assert_eq!(rt;
+        (values_needed(256, 4), marks_needed(256, 4)),
+        (2048, 24_576)
+    );
     for (links, lanes, values, marks, answer) in scratch {
         assert_eq!(rt; check_scratch(links, lanes, values, marks), answer);
     }

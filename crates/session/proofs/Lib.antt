@@ -1,1 +1,2 @@
 pub mod OnGrids
+pub mod Measuring

@@ -1,5 +1,5 @@
 -- What a session answers, and what it has at hand afterwards.
-use Rattle.std.specs.Prelude.{◌≡◌, ℕ, ◌*◌, ◌⊎◌, List, ◌++◌, length, drop, replicate, Some, None, Ok, Err, Option, Result}
+use Rattle.std.specs.Prelude.{◌≡◌, ℕ, ◌⊎◌, List, ◌++◌, length, drop, replicate, Some, None, Ok, Err, Option, Result}
 use Rattle.refusals.specs.declared.refusal.Refusal.{Refusal}
 use Rattle.refusals.specs.declared.refusal.Refusal.TheVariants.{MeshSize}
 use Rattle.layouts.specs.Layout.{Meaning}
@@ -15,7 +15,9 @@ use Rattle.model.specs.Sums.{item_count}
 use Rattle.model.specs.Calls.{opens, closes, sends, steps, answer_of, done}
 use Rattle.model.specs.Questions.{fields_of, hops_of_stream, load_on, count_in}
 use Rattle.lanes.specs.declared.strip.Strip.{Strip}
-use Rattle.lanes.specs.Sizes.{lane_count, slot_count}
+use Rattle.lanes.specs.Sizes.{slot_count}
+use Rattle.search.specs.Scales.{total, peak}
+use Rattle.search.specs.Finds.{values_needed, marks_needed}
 use Rattle.grid.specs.declared.step.Step.{Step}
 use Rattle.grid.specs.declared.step.Step.TheVariants as step
 use Rattle.grid.specs.Views.{streams_in, outline, setting}
@@ -24,6 +26,8 @@ use Rattle.grid.specs.declared.make.MakeError.{MakeError}
 use Rattle.grid.specs.Seeks.{Seeks}
 use Rattle.grid.specs.Blank.{making_refusal, BlankTables, NotMade}
 use Rattle.script.specs.declared.command.MeasureName.{MeasureName}
+use Rattle.script.specs.declared.command.MeasureName.TheVariants.{Total, Peak}
+use Rattle.grid.specs.declared.tables.Tables.{Tables}
 use Rattle.script.specs.declared.mistake.Mistake.TheVariants.{NoMesh, NoGrid, OutOfMemory}
 use Rattle.script.specs.Words.{words_of}
 use Rattle.script.specs.Reads.{Read}
@@ -35,7 +39,6 @@ use Rattle.session.specs.declared.failure.Failure.{Failure}
 use Rattle.session.specs.declared.failure.Failure.TheVariants as failure
 use Rattle.session.specs.declared.failure.LineFailure.{LineFailure}
 use Rattle.session.specs.Failures.{making_failure}
-use Rattle.session.specs.Measures.{scale_of}
 use Rattle.session.specs.Hands.{GridHand, Hand}
 
 -- the response to a command: its answer, or why it has none
@@ -71,9 +74,9 @@ by_mesh f (Some m) = f m
 
 -- ---- grids
 
--- a grid has as many slots as its lanes can contain items
+-- a grid has the links of its layout, and as many slots as its lanes can contain items
 abbrev pub AllSlots : GridHand → Type 0
-AllSlots g = length g.slots ≡ slot_count g.tables.lanes.size
+AllSlots g = (g.layout.links ≡ g.tables.lanes.size.links) × (length g.slots ≡ slot_count g.tables.lanes.size)
 
 -- A blank grid on a mesh, with a slot for each item that its lanes can contain. What the slots hold is left open.
 pub record NewGrid (m : Meaning) (lanes depth capacity : ℕ) (g : GridHand) : Type 0 where
@@ -161,10 +164,15 @@ abbrev pub sought : ℕ → GridHand → Result ℕ Declined → Response
 sought n g (Ok count) = route n g
 sought n g (Err d) = Err (failure.Declined d)
 
--- A seek is lent scratch of two values and 24 marks for each lane of each link, which is enough, and no slots.
+-- a seek by a named measure, with all the scratch that it needs
+abbrev pub SeeksBy : MeasureName → Meaning → Tables → ℕ → Request → Result ℕ Declined → Tables → Type 0
+SeeksBy Total m t n q a t' = Seeks total m t n q (values_needed m.links t.lanes.size.lanes) (marks_needed m.links t.lanes.size.lanes) a t'
+SeeksBy Peak m t n q a t' = Seeks peak m t n q (values_needed m.links t.lanes.size.lanes) (marks_needed m.links t.lanes.size.lanes) a t'
+
+-- A seek is lent no slots. Which of equally good routes it takes is left open.
 abbrev pub Searches : ℕ → Request → MeasureName → GridHand → Response → GridHand → Type 0
 Searches n q measure g r g' =
-    (a : Result ℕ Declined) × Seeks (scale_of measure) g.layout g.tables n q (2 * lane_count g.tables.lanes.size) (24 * lane_count g.tables.lanes.size) a g'.tables
+    (a : Result ℕ Declined) × SeeksBy measure g.layout g.tables n q a g'.tables
     × (g'.layout ≡ g.layout) × (g'.slots ≡ g.slots) × (r ≡ sought n g' a)
 
 -- ---- commands and lines

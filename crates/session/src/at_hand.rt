@@ -1,8 +1,9 @@
 // The grid at hand, and its answers.
-ghost use Rattle.std.specs.Prelude.{◌≡◌, ◌*◌, length, Ok, MatchResult, vec_items};
+ghost use Rattle.std.specs.Prelude.{◌≡◌, length, Ok, MatchResult, vec_items};
 ghost use Rattle.layouts.specs.Mesh.{meaning_of};
-ghost use Rattle.lanes.specs.Sizes.{lane_count, slot_count};
+ghost use Rattle.lanes.specs.Sizes.{slot_count};
 ghost use Rattle.search.specs.Scales.{choice, total, peak};
+ghost use Rattle.search.specs.Finds.{values_needed, marks_needed};
 ghost use Rattle.grid.specs.declared.make.MakeError.TheVariants.{OutOfMemory};
 ghost use Rattle.grid.specs.Blank.{NotMade};
 ghost use Rattle.session.specs.Measures.{scale_of};
@@ -19,10 +20,11 @@ use routes::stream::Request;
 use script::command::MeasureName;
 use search::choice::{Choice, Either};
 use search::peak::Peak;
+use search::scratch::{marks_needed, values_needed};
 use search::total::Total;
 use std::alloc::Global;
 
-/// A grid with a slot for each item that its lanes can contain, and the scratch of seeks: two values and 24 marks for each lane.
+/// A grid with a slot for each item that its lanes can contain, and the scratch of seeks.
 #[derive(Drop)]
 pub(crate) struct GridAtHand {
     pub(crate) grid: Grid<Mesh>,
@@ -30,8 +32,8 @@ pub(crate) struct GridAtHand {
     values: Vec<Either<u32, (u16, u16)>>,
     marks: Vec<u16>,
     ghost all_slots: { length (vec_items slots) ≡ slot_count grid.tables.lanes.size },
-    ghost all_values: { length (vec_items values) ≡ 2 * lane_count grid.tables.lanes.size },
-    ghost all_marks: { length (vec_items marks) ≡ 24 * lane_count grid.tables.lanes.size },
+    ghost all_values: { length (vec_items values) ≡ values_needed grid.tables.lanes.size.links grid.tables.lanes.size.lanes },
+    ghost all_marks: { length (vec_items marks) ≡ marks_needed grid.tables.lanes.size.links grid.tables.lanes.size.lanes },
 }
 
 // So many of an item.
@@ -71,7 +73,6 @@ impl GridAtHand {
     {
         let grid = Grid::blank(heap, mesh, lanes, depth, capacity)?;
         let size = grid.size();
-        let lane_count = usize::from(size.links()) * usize::from(size.lanes());
         let strip = Strip {
             fragment: 0,
             band: 0,
@@ -80,8 +81,12 @@ impl GridAtHand {
         Ok(GridAtHand {
             grid,
             slots: filled(heap, strip, size.slots())?,
-            values: filled(heap, Either::First(0), 2 * lane_count)?,
-            marks: filled(heap, 0, 24 * lane_count)?,
+            values: filled(
+                heap,
+                Either::First(0),
+                values_needed(size.links(), size.lanes()),
+            )?,
+            marks: filled(heap, 0, marks_needed(size.links(), size.lanes()))?,
         })
     }
 

@@ -71,6 +71,8 @@ impl Session {
     /// The answer to a command. A mesh or a grid that is made takes the place of the one at hand; with a grid its mesh is
     /// at hand too. A refusal or a mistake leaves all at hand as it was.
     ///
+    /// Which of equally good routes a seek takes is left open.
+    ///
     /// Refuses what `Mesh::new`, `judge` and the calls of a grid refuse. Where a mesh or a grid is wanted and none is at
     /// hand, the mistake is `NoMesh` or `NoGrid`; where there is no memory for a grid, it is `OutOfMemory`.
     pub fn answer(&mut self, heap: Global, command: Command) -> Result<Answer, Failure>
@@ -136,7 +138,8 @@ impl Session {
     }
 
     /// The reply to a line of a script, none where the line has no word. Lines are counted from 1. Where there is no
-    /// memory for what the line says, that is the reply, and all at hand is as it was.
+    /// memory for what the line says, that is the reply, and all at hand is as it was. Which of equally good routes a seek takes is left
+    /// open.
     pub fn reply(
         &mut self,
         heap: Global,

@@ -1,11 +1,20 @@
-use Rattle.std.proofs.Common.{◌≡◌, ◌*◌, length, Ok, refl, ap, ◌∙◌}
+use Rattle.std.proofs.Common.{length, Ok, refl, sym, ap, ◌∙◌}
 use Rattle.layouts.specs.Mesh.{meaning_of}
-use Rattle.lanes.specs.Sizes.{lane_count}
+use Rattle.search.specs.Finds.{values_needed, marks_needed}
+use Rattle.session.proofs.Measuring.{seeks_by}
 use Rattle.session.proofs.at_hand.GridAtHand.seek.Goals as goal
 
 pub returns : goal.returns
 returns c =
-    let values : length c.as_mut_slice.result.now ≡ 2 * lane_count c.args.self.now.grid.tables.lanes.size = ap length c.as_mut_slice.ensures.value ∙ c.args.self.now.all_values in
-    let marks : length c.as_mut_slice-2.result.now ≡ 24 * lane_count c.args.self.now.grid.tables.lanes.size = ap length c.as_mut_slice-2.ensures.value ∙ c.args.self.now.all_marks in
-    let sought = c.in_ok-seek.ensures in
-    (Ok c.in_ok-seek.field-0, rw (← c.measure_of.ensures, ← values, ← marks) sought.made, ap meaning_of sought.layout, refl, c.route.ensures)
+    let hand = c.args.self.now in
+    let lanes = hand.grid.tables.lanes.size.lanes in
+    let values = ap length c.as_mut_slice.ensures.value ∙ hand.all_values ∙ ap (λ links. values_needed links lanes) (sym hand.grid.fits) in
+    let marks = ap length c.as_mut_slice-2.ensures.value ∙ hand.all_marks ∙ ap (λ links. marks_needed links lanes) (sym hand.grid.fits) in
+    let sought = c.in_ok-seek.ensures in (
+      Ok c.in_ok-seek.field-0,
+      seeks_by (meaning_of hand.grid.layout) hand.grid.tables _ c.args.stream c.args.request c.args.measure (Ok c.in_ok-seek.field-0)
+          (rw (c.measure_of.ensures, values, marks) at sought.made),
+      ap meaning_of sought.layout,
+      refl,
+      c.route.ensures,
+    )

@@ -9,7 +9,7 @@ use routes::stream::Request;
 pub enum MeasureName {
     /// The sum of the loads.
     Total,
-    /// The largest load.
+    /// The largest load, and how many hops bear it.
     Peak,
 }
 

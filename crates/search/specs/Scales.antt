@@ -9,7 +9,8 @@ pub record Scale (V : Type 0) : Type 0 where
   pub extend : V → ℕ → V
   pub not_above : V → V → Bool
 
--- The order is total and transitive, and a load that extends two values keeps it.
+-- The order is total and transitive, and a load that extends two values keeps it: for all numbers, as a scale of numbers within
+-- bounds goes on beyond them.
 pub record Ordered {V : Type 0} (s : Scale V) : Type 0 where
   pub total : (p q : V) → (s.not_above p q ≡ true) ⊎ (s.not_above q p ≡ true)
   pub transitive : (p q r : V) → s.not_above p q ≡ true → s.not_above q r ≡ true → s.not_above p r ≡ true

@@ -9,6 +9,7 @@ use Rattle.routes.specs.Acceptable.{Acceptable}
 use Rattle.search.specs.Scales.{Scale, Ordered}
 use Rattle.search.specs.Best.{measured, Best, NoneAcceptable}
 use Rattle.search.specs.Finds.{Finds}
+use Rattle.search.proofs.Picking.{level}
 
 -- a best route, where no other route is best
 abbrev pub OnlyBest : {V : Type 0} → Scale V → Terms → Request → List Hop → Type 0
@@ -27,7 +28,7 @@ module _ {V : Type 0} (s : Scale V) (ordered : Ordered s) (t : Terms) (q : Reque
       (alone : (other : List Hop) → Acceptable t q other → length other ≡ length hops → (other ≡ hops) ⊎ Worse other) where
     least : (other : List Hop) → Acceptable t q other → length other ≡ length hops → s.not_above (measure hops) (measure other) ≡ true
     least other b e =
-        ⊎_elim (λ (is : other ≡ hops). rw is (⊎_elim (λ same. same) (λ same. same) (ordered.total (measure hops) (measure hops))))
+        ⊎_elim (λ (is : other ≡ hops). rw is (level s ordered (measure hops)))
         (λ (worse : Worse other). worse.0) (alone other b e)
 
     no_other : (other : List Hop) → Best s t q other → other ≡ hops

@@ -34,13 +34,13 @@ module _ (P : ℕ → Type 0) where
       ⊎_elim (λ (last : k ≡ n). subst (λ j. test j ≡ true → P j) (sym last) parts.0 e) (λ (other : k ≡ n → ⊥). each test n parts.1 k (omega arith) e) (cases_eq k n)
 
 -- the turn is one of the layout's, and some two lanes fit it
-abbrev pub may_turn : Turn → ℕ → Bool
-may_turn w lanes = not (never w) && lanes_fit w 0 (lanes - 1)
+abbrev pub can_turn : Turn → ℕ → Bool
+can_turn w lanes = not (never w) && lanes_fit w 0 (lanes - 1)
 
-may_turn_lem : (w : Turn) (lanes u v : ℕ) → (w ≡ Never → ⊥) → (w ≡ Climb → u < v) → v < lanes → may_turn w lanes ≡ true
-may_turn_lem Never lanes u v is rises there = absurd (is refl)
-may_turn_lem Free lanes u v is rises there = le-leb 0 (lanes - 1) (omega arith)
-may_turn_lem Climb lanes u v is rises there = let up = rises refl in lt-ltb 0 (lanes - 1) (omega arith)
+can_turn_from : (w : Turn) (lanes u v : ℕ) → (w ≡ Never → ⊥) → (w ≡ Climb → u < v) → v < lanes → can_turn w lanes ≡ true
+can_turn_from Never lanes u v is rises there = absurd (is refl)
+can_turn_from Free lanes u v is rises there = le-leb 0 (lanes - 1) (omega arith)
+can_turn_from Climb lanes u v is rises there = let up = rises refl in lt-ltb 0 (lanes - 1) (omega arith)
 
 module _ (t : Terms) (q : Request) where
   abbrev pub bears : ℕ → Bool
@@ -51,7 +51,7 @@ module _ (t : Terms) (q : Request) where
   firsts = those (λ b. t.layout.start b == q.source && bears b) t.layout.links
 
   abbrev pub may_follow : ℕ → ℕ → Bool
-  may_follow a b = may_turn (t.layout.turn a b) t.lanes && bears b
+  may_follow a b = can_turn (t.layout.turn a b) t.lanes && bears b
 
   abbrev pub nexts : ℕ → List ℕ
   nexts a = those (may_follow a) t.layout.links
@@ -74,7 +74,7 @@ module _ (t : Terms) (q : Request) where
 
     follows : (k : ℕ) → k + 1 < length hops → may_follow (link k) (link (k + 1)) ≡ true
     follows k less =
-        and_from _ _ (may_turn_lem _ t.lanes (hop_at hops k).lane (hop_at hops (k + 1)).lane (a.turns k less) (a.climbs k less) (a.on_grid (k + 1) less).1)
+        and_from _ _ (can_turn_from _ t.lanes (hop_at hops k).lane (hop_at hops (k + 1)).lane (a.turns k less) (a.climbs k less) (a.on_grid (k + 1) less).1)
         (borne (k + 1) less)
 
     -- what holds of each link that is listed holds of the link of the route

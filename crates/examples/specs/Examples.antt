@@ -99,8 +99,8 @@ abbrev pub to_middle : ℕ → Request
 to_middle demand = record { source = 0; target = 4; demand = demand }
 
 -- the other way to tile 4, by tile 3, with the lane of its second hop
-abbrev pub round : ℕ → List Hop
-round lane = hop_on 12 0 ∷ (hop_on 2 lane ∷ [])
+abbrev pub detour : ℕ → List Hop
+detour lane = hop_on 12 0 ∷ (hop_on 2 lane ∷ [])
 
 -- what such a seek may find, with all the scratch that it needs
 abbrev pub Found : {V : Type 0} → Scale V → TurnRule → ℕ → History ℕ → Request → Result (List Hop) Declined → Type 0
@@ -119,8 +119,8 @@ abbrev pub LoadedSeeks : Type 0
 LoadedSeeks =
     (refusal_number NoRoute ≡ 17)
     × OnlyFinds total Xy 1 loaded (to_middle 30) (Err (no_hop NoRoute))
-    × OnlyFinds total Xy 2 loaded (to_middle 30) (Ok (round 1))
-    × OnlyFinds peak Xy 2 loaded (to_middle 30) (Ok (round 1))
+    × OnlyFinds total Xy 2 loaded (to_middle 30) (Ok (detour 1))
+    × OnlyFinds peak Xy 2 loaded (to_middle 30) (Ok (detour 1))
 
 -- Under the rule negative-first neither way has to climb. Link 0 has a load of 40 and link 13 none, links 12 and 2 have one
 -- of 30 each: the first way has the least sum of loads, and the other one the lowest peak.
@@ -130,7 +130,7 @@ shared =
 
 abbrev pub SharedSeeks : Type 0
 SharedSeeks =
-    OnlyFinds total NegativeFirst 1 shared (to_middle 10) (Ok corner) × OnlyFinds peak NegativeFirst 1 shared (to_middle 10) (Ok (round 0))
+    OnlyFinds total NegativeFirst 1 shared (to_middle 10) (Ok corner) × OnlyFinds peak NegativeFirst 1 shared (to_middle 10) (Ok (detour 0))
 
 abbrev pub WorkedExamples : Type 0
 WorkedExamples = SmallTurns × SmallRoutes × LoadedOpenings × ShortRun × LoadedSeeks × SharedSeeks

@@ -24,7 +24,7 @@ use Rattle.runs.specs.declared.call.Call.{Call}
 use Rattle.runs.specs.declared.call.Call.TheVariants.{Open, Seek, Close, Send, Step}
 use Rattle.runs.specs.declared.call.Reply.{Reply}
 use Rattle.runs.specs.Calls.{reply, seek_reply, Shown, Answers, MakesCall}
-use Rattle.runs.specs.Runs.{Conditions, setting_of, Follows, CallFollows, Leads, LeftBy}
+use Rattle.runs.specs.Runs.{Conditions, setting_in, Continues, CallContinues, LeadsTo, LeftBy}
 use Rattle.runs.proofs.Showing.{length-slots_after}
 
 -- slots that show the items show the outline
@@ -33,13 +33,13 @@ outlined t xs shown = ap (with_streams (streams_in t)) (sym shown)
 
 module _ {M V : Type 0} (R : Conditions M V) where
   abbrev S : Setting
-  S = setting_of R
+  S = setting_in R
 
 module _ {M V T : Type 0} (R : Conditions M V) where
   -- one call more, where the law holds of every history
   pub leads_more : ((past : History T) → Keeps (S R) past) → (past : History T) (calls : List (Call T M)) (answers : List (Result (Reply T) Declined)) (so_far : History T) (c : Call T M)
-      (r : Result (Reply T) Declined) (next : History T) → Leads R past calls answers so_far → CallFollows R so_far c r next → Leads R past (calls ++ (c ∷ [])) (answers ++ (r ∷ [])) next
-  leads_more law past [] [] so_far c r next leads follows = (law past, (next, subst (λ p. CallFollows R p c r next) leads.1 follows, (law next, refl)))
+      (r : Result (Reply T) Declined) (next : History T) → LeadsTo R past calls answers so_far → CallContinues R so_far c r next → LeadsTo R past (calls ++ (c ∷ [])) (answers ++ (r ∷ [])) next
+  leads_more law past [] [] so_far c r next leads follows = (law past, (next, subst (λ p. CallContinues R p c r next) leads.1 follows, (law next, refl)))
   leads_more law past [] (a ∷ answers) so_far c r next leads follows = absurd leads
   leads_more law past (d ∷ calls) [] so_far c r next leads follows = absurd leads
   leads_more law past (d ∷ calls) (a ∷ answers) so_far c r next leads follows =
@@ -102,10 +102,10 @@ module _ {M V T : Type 0} (R : Conditions M V) where
     -- the history of one call more, and what it leaves
     pub record OneMore (c : Call T M) (r : Result (Reply T) Declined) : Type 0 where
       pub next : History T
-      pub follows : CallFollows R past c r next
+      pub follows : CallContinues R past c r next
       pub remains : Left next xs t' xs''
 
-    answered : (c : Call T M) (asked : GridCall T) (r : Result (Reply T) Declined) → ((next : History T) → Follows R past asked r next → CallFollows R past c r next)
+    answered : (c : Call T M) (asked : GridCall T) (r : Result (Reply T) Declined) → ((next : History T) → Continues R past asked r next → CallContinues R past c r next)
         → Answers R.layout t xs' asked r t' xs'' → Shown t' xs'' → OneMore c r
     answered c asked r follows makes shown = record {
       next = past ▸ asked;
@@ -146,7 +146,7 @@ module _ {M V T : Type 0} (R : Conditions M V) where
     pub history : History T
     pub room : length answers ≡ length calls
     pub shown : Shown t xs'
-    pub run : Leads R start (take k calls) (take k answers) history
+    pub run : LeadsTo R start (take k calls) (take k answers) history
     pub left : Left history xs t xs'
 
   module _ (xs : List T) (calls : List (Call T M)) (answers : List (Result (Reply T) Declined)) (t : Tables) where
@@ -183,7 +183,7 @@ module _ {M V T : Type 0} (R : Conditions M V) where
             left = last.remains;
           }
 
-    pub all_made : (k : ℕ) (xs' : List T) → length calls ≤ k → (made : Made xs calls k answers t xs') → Leads R start calls answers made.history
+    pub all_made : (k : ℕ) (xs' : List T) → length calls ≤ k → (made : Made xs calls k answers t xs') → LeadsTo R start calls answers made.history
     all_made k xs' all made =
         let all_calls : take k calls ≡ calls = take_all k calls all in
         let all_answers : take k answers ≡ answers = take_all k answers (omega (arith, made.room)) in

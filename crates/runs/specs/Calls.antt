@@ -39,14 +39,14 @@ abbrev pub Answers : {T : Type 0} → Meaning → Tables → List T → GridCall
 Answers {T} m t xs c r t' xs' = (a : Answer T) × Makes m t xs c a t' xs' × (r ≡ reply a)
 
 -- a seek, with so much scratch lent, opens a stream on the route that it finds, or changes nothing
-abbrev pub Searches : {T V : Type 0} → Scale V → ℕ → ℕ → Meaning → Tables → List T → ℕ → Request → Result (Reply T) Declined → Tables → List T → Type 0
-Searches s values marks m t xs n q r t' xs' =
+abbrev pub MakesSeek : {T V : Type 0} → Scale V → ℕ → ℕ → Meaning → Tables → List T → ℕ → Request → Result (Reply T) Declined → Tables → List T → Type 0
+MakesSeek s values marks m t xs n q r t' xs' =
     (a : Result ℕ Declined) × SeekBy (SeekFindsIn s m t n q values marks) (λ hops. Makes m t xs (opens n q hops) done t' xs') (Same t t' × (xs' ≡ xs)) a × (r ≡ seek_reply a)
 
 -- each call, where measures count in these scales
 abbrev pub MakesCall : {T V M : Type 0} → (M → Scale V) → ℕ → ℕ → Meaning → Tables → List T → Call T M → Result (Reply T) Declined → Tables → List T → Type 0
 MakesCall scale values marks m t xs (Open n q hops) r t' xs' = Answers m t xs (opens n q (vec_items hops)) r t' xs'
-MakesCall scale values marks m t xs (Seek n q measure) r t' xs' = Searches (scale measure) values marks m t xs n q r t' xs'
+MakesCall scale values marks m t xs (Seek n q measure) r t' xs' = MakesSeek (scale measure) values marks m t xs n q r t' xs'
 MakesCall scale values marks m t xs (Close n) r t' xs' = Answers m t xs (closes n) r t' xs'
 MakesCall scale values marks m t xs (Send n x) r t' xs' = Answers m t xs (sends n x) r t' xs'
 MakesCall scale values marks m t xs (Step h) r t' xs' = Answers m t xs (steps h.link h.lane) r t' xs'

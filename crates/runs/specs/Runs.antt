@@ -44,35 +44,35 @@ conditions m lanes depth capacity slots values marks scale = record {
   scale = scale;
 }
 
-abbrev pub setting_of : {M V : Type 0} → Conditions M V → Setting
-setting_of R = on_layout R.layout R.lanes R.depth R.capacity R.slots
+abbrev pub setting_in : {M V : Type 0} → Conditions M V → Setting
+setting_in R = on_layout R.layout R.lanes R.depth R.capacity R.slots
 
 -- a call of the grid in words, made after those of a past, is answered so, and is then part of the past
-abbrev pub Follows : {M V T : Type 0} → Conditions M V → History T → GridCall T → Result (Reply T) Declined → History T → Type 0
-Follows R past c r next = (r ≡ reply (answer_to (setting_of R) past c)) × (next ≡ past ▸ c)
+abbrev pub Continues : {M V T : Type 0} → Conditions M V → History T → GridCall T → Result (Reply T) Declined → History T → Type 0
+Continues R past c r next = (r ≡ reply (answer_to (setting_in R) past c)) × (next ≡ past ▸ c)
 
 -- What a seek answers after a past. One that is not declined is the opening of the stream on the route that it finds, a best one; one
 -- that is declined has not been.
-abbrev pub SeekFollows : {M V T : Type 0} → Conditions M V → Scale V → History T → ℕ → Request → Result (Reply T) Declined → History T → Type 0
-SeekFollows R s past n q r next =
-    (a : Result ℕ Declined) × SeekBy (SeekFinds s R.layout R.lanes R.capacity (after (setting_of R) past).streams n q R.values R.marks)
+abbrev pub SeekContinues : {M V T : Type 0} → Conditions M V → Scale V → History T → ℕ → Request → Result (Reply T) Declined → History T → Type 0
+SeekContinues R s past n q r next =
+    (a : Result ℕ Declined) × SeekBy (SeekFinds s R.layout R.lanes R.capacity (after (setting_in R) past).streams n q R.values R.marks)
     (λ hops. next ≡ past ▸ opens n q hops) (next ≡ past) a × (r ≡ seek_reply a)
 
 -- what each call answers after a past, and the past of the next call
-abbrev pub CallFollows : {M V T : Type 0} → Conditions M V → History T → Call T M → Result (Reply T) Declined → History T → Type 0
-CallFollows R past (Open n q hops) r next = Follows R past (opens n q (vec_items hops)) r next
-CallFollows R past (Seek n q measure) r next = SeekFollows R (R.scale measure) past n q r next
-CallFollows R past (Close n) r next = Follows R past (closes n) r next
-CallFollows R past (Send n x) r next = Follows R past (sends n x) r next
-CallFollows R past (Step h) r next = Follows R past (steps h.link h.lane) r next
+abbrev pub CallContinues : {M V T : Type 0} → Conditions M V → History T → Call T M → Result (Reply T) Declined → History T → Type 0
+CallContinues R past (Open n q hops) r next = Continues R past (opens n q (vec_items hops)) r next
+CallContinues R past (Seek n q measure) r next = SeekContinues R (R.scale measure) past n q r next
+CallContinues R past (Close n) r next = Continues R past (closes n) r next
+CallContinues R past (Send n x) r next = Continues R past (sends n x) r next
+CallContinues R past (Step h) r next = Continues R past (steps h.link h.lane) r next
 
 -- Calls made one after another after a past are answered so, and lead to an end; and the whole law of every run holds before
 -- and after each of them, and so at every close.
-abbrev pub Leads : {M V T : Type 0} → Conditions M V → History T → List (Call T M) → List (Result (Reply T) Declined) → History T → Type 0
-Leads R past [] [] end = Keeps (setting_of R) past × (end ≡ past)
-Leads R past [] (r ∷ answers) end = ⊥
-Leads R past (c ∷ calls) [] end = ⊥
-Leads {M} {V} {T} R past (c ∷ calls) (r ∷ answers) end = Keeps (setting_of R) past × ((next : History T) × CallFollows R past c r next × Leads R next calls answers end)
+abbrev pub LeadsTo : {M V T : Type 0} → Conditions M V → History T → List (Call T M) → List (Result (Reply T) Declined) → History T → Type 0
+LeadsTo R past [] [] end = Keeps (setting_in R) past × (end ≡ past)
+LeadsTo R past [] (r ∷ answers) end = ⊥
+LeadsTo R past (c ∷ calls) [] end = ⊥
+LeadsTo {M} {V} {T} R past (c ∷ calls) (r ∷ answers) end = Keeps (setting_in R) past × ((next : History T) × CallContinues R past c r next × LeadsTo R next calls answers end)
 
 -- What the calls of a past leave of a blank grid and of the slots: the grid in words; its outline, which the tables tell also
 -- where the slots are too few to show it; and each slot.
@@ -90,5 +90,5 @@ pub record Replays {M V T : Type 0} (R : Conditions M V) (xs : List T) (calls : 
   pub has_depth : t.lanes.size.depth ≡ R.depth
   pub has_capacity : t.capacity ≡ R.capacity
   pub history : History T
-  pub run : Leads R start calls answers history
-  pub leaves : LeftBy (setting_of R) history xs t xs'
+  pub run : LeadsTo R start calls answers history
+  pub leaves : LeftBy (setting_in R) history xs t xs'

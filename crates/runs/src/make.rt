@@ -29,8 +29,8 @@ pub(crate) fn make<L: Layout, T: Copy, M: Measure>(
             Ok(Reply::Done)
         }
         Call::Seek(stream, request, measure) => {
-            let hops = grid.seek(*stream, *request, measure, values, marks)?;
-            Ok(Reply::Found(hops))
+            let count = grid.seek(*stream, *request, measure, values, marks)?;
+            Ok(Reply::Found(count))
         }
         Call::Close(stream) => {
             grid.close(*stream)?;

@@ -1,7 +1,7 @@
 -- What is said of each mistake.
 use Rattle.std.specs.Prelude.{ℕ, List, codes}
 use Rattle.script.specs.declared.mistake.Mistake.{Mistake}
-use Rattle.script.specs.declared.mistake.Mistake.TheVariants.{UnknownCommand, MissingWord, ExtraWord, UnknownRule, NotANumber, NumberTooLarge, NotAHop, NotAMeasure, NoMesh, NoGrid, OutOfMemory}
+use Rattle.script.specs.declared.mistake.Mistake.TheVariants.{UnknownCommand, MissingWord, ExtraWord, UnknownRule, NotANumber, NumberTooLarge, NotAHop, UnknownMeasure, NoMesh, NoGrid, OutOfMemory}
 
 abbrev pub text_of : Mistake → List ℕ
 text_of UnknownCommand = codes "unknown command"
@@ -11,7 +11,7 @@ text_of UnknownRule = codes "unknown rule"
 text_of NotANumber = codes "not a number"
 text_of NumberTooLarge = codes "number too large"
 text_of NotAHop = codes "not a hop"
-text_of NotAMeasure = codes "not a measure"
+text_of UnknownMeasure = codes "unknown measure"
 text_of NoMesh = codes "no mesh"
 text_of NoGrid = codes "no grid"
 text_of OutOfMemory = codes "out of memory"

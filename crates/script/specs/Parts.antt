@@ -9,7 +9,7 @@ use Rattle.routes.specs.Routes.{hop_on}
 use Rattle.lanes.specs.declared.strip.Strip.{Strip}
 use Rattle.script.specs.declared.command.MeasureName.{MeasureName}
 use Rattle.script.specs.declared.command.MeasureName.TheVariants.{Total, Peak}
-use Rattle.script.specs.declared.mistake.Mistake.TheVariants.{MissingWord, ExtraWord, UnknownRule, NotAMeasure}
+use Rattle.script.specs.declared.mistake.Mistake.TheVariants.{MissingWord, ExtraWord, UnknownRule, UnknownMeasure}
 use Rattle.script.specs.Numbers.{decimal_of}
 use Rattle.script.specs.Reads.{Read, then}
 use Rattle.script.specs.Hops.{hops_in}
@@ -25,7 +25,7 @@ rule_of w =
 
 -- the measure that a word names
 abbrev pub measure_of : List ℕ → Read MeasureName
-measure_of w = cond (bytes_eq w (codes "total")) (Ok Total) (cond (bytes_eq w (codes "peak")) (Ok Peak) (Err NotAMeasure))
+measure_of w = cond (bytes_eq w (codes "total")) (Ok Total) (cond (bytes_eq w (codes "peak")) (Ok Peak) (Err UnknownMeasure))
 
 -- the first word as f reads it, and the words behind it
 abbrev pub first : {A : Type 0} → (List ℕ → Read A) → List (List ℕ) → Read A

@@ -24,7 +24,7 @@ pub enum Mistake {
     /// The word where a hop is wanted has no dot.
     NotAHop,
     /// The word where a measure is wanted names none.
-    NotAMeasure,
+    UnknownMeasure,
     /// The command wants a mesh, and none has been made.
     NoMesh,
     /// The command wants a grid, and none has been made.
@@ -46,7 +46,7 @@ impl Mistake {
             Mistake::NotANumber => "not a number",
             Mistake::NumberTooLarge => "number too large",
             Mistake::NotAHop => "not a hop",
-            Mistake::NotAMeasure => "not a measure",
+            Mistake::UnknownMeasure => "unknown measure",
             Mistake::NoMesh => "no mesh",
             Mistake::NoGrid => "no grid",
             Mistake::OutOfMemory => "out of memory",

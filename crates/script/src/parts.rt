@@ -35,7 +35,7 @@ fn measure(word: &[u8]) -> Result<MeasureName, Mistake>
     match word {
         b"total" => Ok(MeasureName::Total),
         b"peak" => Ok(MeasureName::Peak),
-        _ => Err(Mistake::NotAMeasure),
+        _ => Err(Mistake::UnknownMeasure),
     }
 }
 

@@ -1,6 +1,7 @@
 -- Best walks are best routes.
-use Rattle.std.proofs.Common.{◌≡◌, ℕ, zero, suc, ◌+◌, ◌-◌, ◌<◌, ◌≤◌, Bool, true, false, nat_lt, nat_le, is_some, List, [], ◌∷◌, ◌++◌, length, take, Some, None, Option, ◌==◌, not, ◌&&◌, sym, refl, ap, ◌∙◌, subst, ⊎_elim, inr, arith}
-use Rattle.std.proofs.lemmas.Bool.{cases_Bool, cases_eq, lt-ltb, le-leb, leb-true, ltb-true, and_parts, eq-eqb, false≢true, not-true}
+use Rattle.std.proofs.Common.{◌≡◌, ℕ, zero, suc, ◌+◌, ◌-◌, ◌<◌, ◌≤◌, Bool, true, false, nat_lt, is_some, List, [], ◌∷◌, ◌++◌, length, take, Some, None, Option, ◌==◌, not, ◌&&◌, sym, refl, ap, ◌∙◌, subst, ⊎_elim, inr, arith}
+use Rattle.std.proofs.lemmas.Bool.{cases_eq, lt-ltb, le-leb, ltb-true, and_parts, eq-eqb, false≢true, not-true}
+use Rattle.std.proofs.lemmas.Bool.Decides.{nat_tests}
 use Rattle.std.proofs.lemmas.List.{take_all, take_more}
 use Rattle.std.specs.Option.{unwrap_or, option_or, ok_or}
 use Rattle.std.specs.Result.{result_map_both}
@@ -98,15 +99,7 @@ module _ (t : Terms) (q : Request) where
     is : unwrap_or (cost_of t q link) 0 ≡ load_with t q link
 
   costs : (link : ℕ) → is_some (cost_of t q link) ≡ true → Costs link
-  costs link some =
-      ⊎_elim
-      (λ (there : nat_lt link t.layout.links ≡ true).
-      ⊎_elim
-      (λ (fits : nat_le (load_with t q link) t.capacity ≡ true). record { fits = leb-true _ _ fits; is = rw (there, fits) refl })
-      (λ (over : nat_le (load_with t q link) t.capacity ≡ false). let none = rw (there, over) at some in cc)
-      (cases_Bool (nat_le (load_with t q link) t.capacity)))
-      (λ (off : nat_lt link t.layout.links ≡ false). let none = rw off at some in cc)
-      (cases_Bool (nat_lt link t.layout.links))
+  costs link some = record { fits = grind (arith, nat_tests); is = grind (arith, nat_tests) }
 
   module _ (hops : List Hop) (a : Acceptable t q hops) where
     usable : (k : ℕ) → k < length hops → Usable P (hop_at hops k)

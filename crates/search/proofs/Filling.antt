@@ -63,9 +63,6 @@ pub record Filled {V : Type 0} (s : Scale V) (P : Problem) (marks : List ℕ) (v
   pub before : RowBefore s P (marks_in P marks) (values_in s values) k
   pub row : Row s P (marks_in P marks) (upper s P values) k n
 
-pub filled_none : {V : Type 0} (s : Scale V) (P : Problem) (marks : List ℕ) (values : List V) (k : ℕ) → RowBefore s P (marks_in P marks) (values_in s values) k → Filled s P marks values k 0
-filled_none s P marks values k before = record { before = before; row = λ place less. absurd (omega arith) }
-
 module _ {V : Type 0} (s : Scale V) (P : Problem) (marks : List ℕ) (values : List V) (k n mark : ℕ) (value : V) (there : n < places P)
     (room : k * places P + n < length marks) (room_too : places P + n < length values) where
   abbrev marks' : List ℕ

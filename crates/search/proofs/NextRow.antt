@@ -9,36 +9,9 @@ use Rattle.search.specs.Scales.{Scale, Ordered}
 use Rattle.search.specs.Walks.{Problem, places, hop_of, Usable, Follows, Walk, value_of}
 use Rattle.search.specs.Rows.{path, Reached, Tells, Row, Least, Before}
 use Rattle.search.proofs.Walking.{highest, lane_low, may_follow, place_there, hop_of_place, raise, usable_last}
-use Rattle.search.proofs.Picking.{level, Marked, marked}
+use Rattle.search.proofs.Picking.{Marked, marked}
 
 module _ {V : Type 0} (s : Scale V) (P : Problem) (marks : ℕ → ℕ → ℕ) where
-  -- ---- row 0
-
-  pub tells_first : Ordered s → (place : ℕ) (value : V) → Usable P (hop_of P place) → P.layout.start (hop_of P place).link ≡ P.source
-      → value ≡ s.extend s.start (unwrap_or (P.costs (hop_of P place).link) 0) → Tells s P marks 0 place 1 value
-  tells_first ordered place value usable starts is = record {
-    unreached = λ e. absurd (omega (arith, e));
-    reached = λ _. record {
-      leads = tt;
-      walk = (usable, starts);
-      measures = sym is;
-      least = only;
-    };
-  } where
-    only : (rest : List Hop) → length rest ≡ 0 → Walk P (hop_of P place ∷ rest) → s.not_above value (value_of s P (hop_of P place ∷ rest)) ≡ true
-    only [] long walk = rw is (level s ordered _)
-    only (h ∷ rest) long walk = absurd (omega (arith, long))
-
-  pub tells_not_first : (place : ℕ) (value : V) → (Usable P (hop_of P place) → P.layout.start (hop_of P place).link ≡ P.source → ⊥) → Tells s P marks 0 place 0 value
-  tells_not_first place value bars = record { unreached = λ _. none; reached = λ some. absurd (omega arith) } where
-    none : (rest : List Hop) → length rest ≡ 0 → Walk P (hop_of P place ∷ rest) → ⊥
-    none [] long walk = bars walk.0 walk.1
-    none (h ∷ rest) long walk = omega (arith, long)
-
-  -- no walk ends on a hop that is not usable
-  pub tells_unusable : (k place : ℕ) (value : V) → (Usable P (hop_of P place) → ⊥) → Tells s P marks k place 0 value
-  tells_unusable k place value bars = record { unreached = λ _ rest long walk. bars (usable_last P (hop_of P place) rest walk); reached = λ some. absurd (omega arith) }
-
   -- ---- row k + 1 from row k
 
   module _ (values : ℕ → V) (k : ℕ) (row : Row s P marks values k (places P)) where

@@ -1,7 +1,7 @@
 -- The best of some places, one by one.
-use Rattle.std.proofs.Common.{◌≡◌, ℕ, zero, suc, ◌+◌, ◌*◌, ◌<◌, ◌≤◌, Bool, true, false, nat_lt, ◌⊎◌, inl, inr, ⊎_elim, Some, None, Option, sym, refl, ◌∙◌, arith}
+use Rattle.std.proofs.Common.{◌≡◌, ℕ, zero, suc, ◌+◌, ◌*◌, ◌<◌, ◌≤◌, Bool, true, false, ◌⊎◌, inl, inr, ⊎_elim, Some, None, Option, sym, refl, ◌∙◌, arith}
 use Rattle.std.proofs.lemmas.Bool.{cases_Bool, cases_eq, cases_lt, cond_both, false≢true, eq-eqb, ltb-true}
-use Rattle.std.proofs.lemmas.Option.{same_Some}
+use Rattle.std.proofs.lemmas.Option.{cond_some, same_Some}
 use Rattle.std.specs.Option.{option_and_then, option_map_or}
 use Rattle.layouts.specs.Layout.{Lawful}
 use Rattle.routes.specs.declared.hop.Hop.{Hop}
@@ -9,10 +9,7 @@ use Rattle.search.specs.Scales.{Scale, Ordered}
 use Rattle.search.specs.Walks.{Problem, places}
 use Rattle.search.specs.Incoming.{last_below, ends_at}
 use Rattle.search.proofs.Walking.{lane_low, may_turn, place_there}
-use Rattle.search.specs.Rows.{marked_at, lane_before, place_before, is_arrival, Before, Arrival, lesser, Least}
-
-high_or_low : (n l : ℕ) → (n ≤ l) ⊎ (l < n)
-high_or_low n l = ⊎_elim inr inl (cases_lt l n)
+use Rattle.search.specs.Rows.{marked_at, lane_before, place_before, Before, lesser, Least}
 
 -- no value is above itself
 pub level : {V : Type 0} (s : Scale V) → Ordered s → (v : V) → s.not_above v v ≡ true
@@ -41,26 +38,6 @@ module _ {V : Type 0} (s : Scale V) (values : ℕ → V) where
               ⊎_elim (λ a. ordered.transitive (values n) (values best) (values p) down (is.1 p a)) (λ (same : p ≡ n). rw same (level s ordered (values n)))
               (back p b),
         ))
-
-  -- the places at which a walk arrives
-  module _ (P : Problem) (marks : ℕ → ℕ → ℕ) (k n : ℕ) where
-    below_or_at : (p : ℕ) → Arrival P marks k (n + 1) p → Arrival P marks k n p ⊎ (p ≡ n)
-    below_or_at p a =
-        ⊎_elim inr
-        (λ (differs : p ≡ n → ⊥). let low = a.seen in inl (record { seen = omega arith; is = a.is }))
-        (cases_eq p n)
-
-    higher : (p : ℕ) → Arrival P marks k n p → Arrival P marks k (n + 1) p
-    higher p a = let low = a.seen in record { seen = omega arith; is = a.is }
-
-    pub arrival_more : Ordered s → is_arrival P marks k n ≡ true → (o : Option ℕ) → Least s values (Arrival P marks k n) o → Least s values (Arrival P marks k (n + 1)) (Some (lesser s values o n))
-    arrival_more ordered is o least =
-        least_more ordered (Arrival P marks k n) (Arrival P marks k (n + 1)) higher n (record { seen = omega arith; is = is }) below_or_at o least
-
-    pub arrival_not : is_arrival P marks k n ≡ false → (o : Option ℕ) → Least s values (Arrival P marks k n) o → Least s values (Arrival P marks k (n + 1)) o
-    arrival_not is o least =
-        least_same (Arrival P marks k n) (Arrival P marks k (n + 1)) higher
-        (λ p a. ⊎_elim (λ h. h) (λ (same : p ≡ n). absurd (false≢true (sym is ∙ rw same at a.is))) (below_or_at p a)) o least
 
 -- ---- the last number that passes a test
 
@@ -120,12 +97,8 @@ marked P marks k h link place is = by_lane (lane_before (P.layout.turn link h.li
         → Marked P marks k h link place
     by_lane None e found = cc
     by_lane (Some lane) e found =
-        ⊎_elim
-        (λ (yes : nat_lt 0 (marks k (link * P.lanes + lane)) ≡ true).
-        let same : link * P.lanes + lane ≡ place = (let f = rw yes at found in cc) in
-        record { lane = lane; turns = e; is = sym same; mark = rw (sym same) (ltb-true _ _ yes) })
-        (λ (no : nat_lt 0 (marks k (link * P.lanes + lane)) ≡ false). let f = rw no at found in cc)
-        (cases_Bool (nat_lt 0 (marks k (link * P.lanes + lane))))
+        let f = cond_some _ _ _ found in
+        record { lane = lane; turns = e; is = sym f.1; mark = rw (sym f.1) (ltb-true _ _ f.0) }
 
 module _ (P : Problem) (marks : ℕ → ℕ → ℕ) (k : ℕ) (h : Hop) where
   pub before_there : (low place : ℕ) → h.lane < P.lanes → Before P marks k h low place → place < places P
@@ -134,22 +107,26 @@ module _ (P : Problem) (marks : ℕ → ℕ → ℕ) (k : ℕ) (h : Hop) where
       let lane = lane_low _ h.lane is.lane is.turns in
       rw is.is (place_there P b.link is.lane b.there (omega arith))
 
+  -- the link of such a place leads to the start of the hop
+  leads_here : Lawful P.layout → {low : ℕ} (p : ℕ) (b : Before P marks k h low p) → ends_at P.layout (P.layout.start h.link) b.link ≡ true
+  leads_here lawful p b =
+      let turns = marked P marks k h b.link p b.is in
+      eq-eqb _ _ (lawful.meets b.link h.link (may_turn _ h.lane turns.lane turns.turns))
+
   module _ (lawful : Lawful P.layout) (n a : ℕ) (all : n ≤ P.layout.links) (is : last_below n (ends_at P.layout (P.layout.start h.link)) ≡ Some a) where
     found : Last n (ends_at P.layout (P.layout.start h.link)) a
     found = is_last n (ends_at P.layout (P.layout.start h.link)) a is
 
     at_or_above : (p : ℕ) → Before P marks k h a p → Before P marks k h n p ⊎ (place_before P marks k h a ≡ Some p)
     at_or_above p b =
-        ⊎_elim (λ (high : n ≤ b.link). inl (record { link = b.link; seen = high; there = b.there; is = b.is }))
+        ⊎_elim
         (λ (low : b.link < n).
         ⊎_elim (λ (same : b.link ≡ a). inr (rw same at b.is))
         (λ (differs : b.link ≡ a → ⊥).
-        let seen = b.seen in
-        let turns = marked P marks k h b.link p b.is in
-        let meets = lawful.meets b.link h.link (may_turn _ h.lane turns.lane turns.turns) in
-        absurd (false≢true (sym (found.none_after b.link (omega arith) low) ∙ eq-eqb _ _ meets)))
+        let seen = b.seen in absurd (false≢true (sym (found.none_after b.link (omega arith) low) ∙ leads_here lawful p b)))
         (cases_eq b.link a))
-        (high_or_low n b.link)
+        (λ (high : n ≤ b.link). inl (record { link = b.link; seen = high; there = b.there; is = b.is }))
+        (cases_lt b.link n)
 
     above : (p : ℕ) → Before P marks k h n p → Before P marks k h a p
     above p b = let low = found.below in let seen = b.seen in record { link = b.link; seen = omega arith; there = b.there; is = b.is }
@@ -174,9 +151,7 @@ module _ (P : Problem) (marks : ℕ → ℕ → ℕ) (k : ℕ) (h : Hop) where
         least_same s values (Before P marks k h n) (Before P marks k h 0)
         (λ p b. record { link = b.link; seen = omega arith; there = b.there; is = b.is })
         (λ p b.
-        ⊎_elim (λ (high : n ≤ b.link). record { link = b.link; seen = high; there = b.there; is = b.is })
-        (λ (low : b.link < n).
-        let turns = marked P marks k h b.link p b.is in
-        let meets = lawful.meets b.link h.link (may_turn _ h.lane turns.lane turns.turns) in
-        absurd (false≢true (sym (none_last n (ends_at P.layout (P.layout.start h.link)) is b.link low) ∙ eq-eqb _ _ meets)))
-        (high_or_low n b.link)) o least
+        ⊎_elim
+        (λ (low : b.link < n). absurd (false≢true (sym (none_last n (ends_at P.layout (P.layout.start h.link)) is b.link low) ∙ leads_here lawful p b)))
+        (λ (high : n ≤ b.link). record { link = b.link; seen = high; there = b.there; is = b.is })
+        (cases_lt b.link n)) o least

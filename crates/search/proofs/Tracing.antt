@@ -1,5 +1,5 @@
 -- Reading a route back, hop by hop.
-use Rattle.std.proofs.Common.{◌≡◌, ℕ, suc, ◌-◌, ◌<◌, ◌≤◌, List, [], ◌∷◌, length, length-set, set, refl, ap, ◌∙◌, arith, get_or-set_same, get_or-set_other}
+use Rattle.std.proofs.Common.{◌≡◌, ℕ, suc, ◌-◌, ◌<◌, ◌≤◌, List, ◌∷◌, length, length-set, set, ap, ◌∙◌, arith, get_or-set_same, get_or-set_other}
 use Rattle.routes.specs.declared.hop.Hop.{Hop}
 use Rattle.routes.specs.Routes.{hop_on, hop_at}
 use Rattle.search.specs.Walks.{Problem, places, hop_of, back}
@@ -16,16 +16,6 @@ pub record Traced (P : Problem) (marks : ℕ → ℕ → ℕ) (k place i at : �
   pub completes : (route : ℕ → Hop) → ((j : ℕ) → i ≤ j → j ≤ k → route j ≡ hop_at table j) → back route (suc i) ≡ path P marks i (marks i at) at → back route (suc k) ≡ path P marks k (marks k place) place
 
 module _ (P : Problem) (marks : ℕ → ℕ → ℕ) (k place : ℕ) where
-  pub traced_none : (table : List Hop) → k < 24 → place < places P → Leads P marks k (marks k place) → length table ≡ 24 → Traced P marks k place k place (set table k (hop_of P place))
-  traced_none table row there leads whole = record {
-    low = omega arith;
-    there = there;
-    leads = leads;
-    whole = length-set table k (hop_of P place) ∙ whole;
-    last = get_or-set_same table k (hop_of P place) (hop_on 0 0) (omega arith);
-    completes = λ route same done. done;
-  }
-
   pub traced_more : (i at : ℕ) (table : List Hop) → k < 24 → Traced P marks k place (suc i) at table
       → Traced P marks k place i (marks (suc i) at - 1) (set table i (hop_of P (marks (suc i) at - 1)))
   traced_more i at table row so_far =
@@ -43,6 +33,3 @@ module _ (P : Problem) (marks : ℕ → ℕ → ℕ) (k place : ℕ) where
             so_far.completes route later
             (ap (λ h. h ∷ back route (suc i)) (later (suc i) (omega arith) low ∙ so_far.last) ∙ ap (λ walk. hop_of P at ∷ walk) done);
       }
-
-  pub traced_all : (at : ℕ) (table : List Hop) → Traced P marks k place 0 at table → back (hop_at table) (suc k) ≡ path P marks k (marks k place) place
-  traced_all at table all = all.completes (hop_at table) (λ j low high. refl) (ap (λ h. h ∷ []) all.last)

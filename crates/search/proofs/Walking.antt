@@ -1,6 +1,7 @@
 -- Walks and their last hops.
-use Rattle.std.proofs.Common.{◌≡◌, ℕ, ◌+◌, ◌-◌, ◌*◌, ◌<◌, ◌≤◌, true, false, nat_lt, List, [], ◌∷◌, Some, sym, refl, ap, ◌∙◌, ⊎_elim, arith}
-use Rattle.std.proofs.lemmas.Bool.{cases_Bool, lt-ltb, ltb-true}
+use Rattle.std.proofs.Common.{◌≡◌, ℕ, ◌+◌, ◌-◌, ◌*◌, ◌<◌, ◌≤◌, nat_lt, List, [], ◌∷◌, Some, sym, refl, ap, ◌∙◌, arith}
+use Rattle.std.proofs.lemmas.Bool.{lt-ltb, ltb-true}
+use Rattle.std.proofs.lemmas.Option.{cond_some}
 use Rattle.std.proofs.lemmas.Nat.{div-mul-add, mod-mul-add, mul-add-lt}
 use Rattle.std.proofs.Math.Nat.{mul_comm, mul-le-mul}
 use Rattle.layouts.specs.Layout.{Meaning}
@@ -30,9 +31,7 @@ highest Climb v w turns keeps climbs =
 pub lane_low : (t : Turn) (w v : ℕ) → lane_before t w ≡ Some v → v ≤ w
 lane_low Never w v is = cc
 lane_low Free w v is = let same : w ≡ v = cc in omega arith
-lane_low Climb w v is =
-    ⊎_elim (λ (up : nat_lt 0 w ≡ true). let e = rw up at is in let same : w - 1 ≡ v = cc in omega arith)
-    (λ (no : nat_lt 0 w ≡ false). let e = rw no at is in cc) (cases_Bool (nat_lt 0 w))
+lane_low Climb w v is = let e = cond_some (nat_lt 0 w) (w - 1) v is in omega (arith, e.1)
 
 pub may_turn : (t : Turn) (w v : ℕ) → lane_before t w ≡ Some v → t ≡ Never → ⊥
 may_turn Never w v is e = cc
@@ -42,9 +41,7 @@ may_turn Climb w v is e = cc
 may_climb : (t : Turn) (w v : ℕ) → lane_before t w ≡ Some v → t ≡ Climb → v < w
 may_climb Never w v is e = cc
 may_climb Free w v is e = cc
-may_climb Climb w v is e =
-    ⊎_elim (λ (up : nat_lt 0 w ≡ true). let some = ltb-true _ _ up in let f = rw up at is in let same : w - 1 ≡ v = cc in omega arith)
-    (λ (no : nat_lt 0 w ≡ false). let f = rw no at is in cc) (cases_Bool (nat_lt 0 w))
+may_climb Climb w v is e = let f = cond_some (nat_lt 0 w) (w - 1) v is in omega (arith, ltb-true _ _ f.0, f.1)
 
 pub may_follow : (m : Meaning) (link lane : ℕ) (h : Hop) → lane_before (m.turn link h.link) h.lane ≡ Some lane → Follows m (hop_on link lane) h
 may_follow m link lane h is = record { turns = may_turn _ h.lane lane is; keeps_lane = lane_low _ h.lane lane is; climbs = may_climb _ h.lane lane is }

@@ -20,7 +20,7 @@ marks_needed links lanes = 24 * (links * lanes)
 abbrev pub enough_scratch : ℕ → ℕ → ℕ → ℕ → Bool
 enough_scratch links lanes values marks = nat_le (values_needed links lanes) values && nat_le (marks_needed links lanes) marks
 
--- a table whose first n entries at most are others than before
+-- a table that is as before from entry n on
 abbrev pub SameBeyond : {A : Type 0} → ℕ → List A → List A → Type 0
 SameBeyond n before after = drop n after ≡ drop n before
 

@@ -1,5 +1,5 @@
 -- The tables of the search. Row k tells of each place the walks of k + 1 hops that end there: a mark, which is 0 where there is no
--- such walk and else one more than the place before, and the value of one of least measure.
+-- such walk and else one more than the place before, or 1 in row 0, and the value of one of least measure.
 use Rattle.std.specs.Prelude.{◌≡◌, ℕ, zero, suc, ◌+◌, ◌-◌, ◌*◌, ◌/◌, ◌<◌, ◌≤◌, Bool, ◌&&◌, ◌==◌, true, cond, List, [], ◌∷◌, length, Some, None, Option, nat_lt, slice_index_or}
 use Rattle.std.specs.Option.{option_and_then}
 use Rattle.layouts.specs.declared.turn.Turn.{Turn}

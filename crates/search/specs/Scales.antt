@@ -20,7 +20,7 @@ pub record Ordered {V : Type 0} (s : Scale V) : Type 0 where
 abbrev pub Antisymmetric : {V : Type 0} → Scale V → Type 0
 Antisymmetric {V} s = (p q : V) → s.not_above p q ≡ true → s.not_above q p ≡ true → p ≡ q
 
--- the sum of the loads, held at the largest number of 32 bits
+-- the sum of the loads, at most the largest number of 32 bits
 abbrev pub total : Scale ℕ
 total = record {
   start = 0;
@@ -28,7 +28,7 @@ total = record {
   not_above = nat_le;
 }
 
--- the largest load and the number of hops that bear it, held at the largest number of 16 bits
+-- the largest load and the number of hops that bear it, which is at most the largest number of 16 bits
 abbrev pub peak_extend : ℕ × ℕ → ℕ → ℕ × ℕ
 peak_extend p load = cond (nat_lt p.0 load) (load, 1) (cond (nat_lt load p.0) p (p.0, min (p.1 + 1) 65535))
 
@@ -38,8 +38,8 @@ peak_not_above p q = nat_lt p.0 q.0 || (p.0 == q.0 && nat_le p.1 q.1)
 abbrev pub peak : Scale (ℕ × ℕ)
 peak = record { start = (0, 0); extend = peak_extend; not_above = peak_not_above }
 
--- One of two scales: the start tells which, and a value of one stays on its scale. The values of the first are not above those
--- of the second.
+-- One of two scales: the start tells which, and a value of one stays on its scale. Every value of the first is below every value of
+-- the second.
 abbrev pub either_extend : {V W : Type 0} → Scale V → Scale W → Either V W → ℕ → Either V W
 either_extend s t (First v) load = First (s.extend v load)
 either_extend s t (Second w) load = Second (t.extend w load)

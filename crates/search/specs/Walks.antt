@@ -29,18 +29,15 @@ borne capacity load = cond (nat_le load capacity) (Some load) None
 abbrev pub cost_of : Terms → Request → ℕ → Option ℕ
 cost_of t q link = cond (nat_lt link t.layout.links) (borne t.capacity (load_with t q link)) None
 
+abbrev pub problem : Meaning → ℕ → (ℕ → Option ℕ) → Request → Problem
+problem m lanes costs q = record { layout = m; lanes = lanes; costs = costs; source = q.source; target = q.target }
+
 abbrev pub problem_of : Terms → Request → Problem
-problem_of t q = record { layout = t.layout; lanes = t.lanes; costs = cost_of t q; source = q.source; target = q.target }
+problem_of t q = problem t.layout t.lanes (cost_of t q) q
 
 -- the problem as the tables of a search tell it
 abbrev pub problem_in : Meaning → Prepared → Problem
-problem_in m p = record {
-  layout = m;
-  lanes = p.lanes;
-  costs = λ link. slice_index_or p.costs link None;
-  source = p.request.source;
-  target = p.request.target;
-}
+problem_in m p = problem m p.lanes (λ link. slice_index_or p.costs link None) p.request
 
 -- A place is a lane of a link, counted over all links.
 abbrev pub places : Problem → ℕ

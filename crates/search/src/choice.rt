@@ -12,7 +12,7 @@ pub enum Either<V, W> {
 }
 
 /// Two measures, and which of them is meant. So calls of one type can have different measures.
-#[derive(Clone, Copy)]
+#[derive(Clone, Copy, PartialEq, Eq, Debug)]
 pub struct Choice<A, B> {
     pub first: A,
     pub second: B,

@@ -44,7 +44,7 @@ impl<L: Layout, M: Measure> Search<'_, L, M> {
 ///
 /// The search goes by rounds: the first finds for each lane of each link whether a walk of one hop ends there, the next one
 /// whether one of two hops does, and so on, with the least value of any such walk; a link may stand twice in a walk. The first
-/// round that reaches the target ends the search, and the route is read back through the marks. There no link stands twice, since
+/// round that reaches the target ends the search, and the route is read back through the marks. On that route no link stands twice, since
 /// the walk without the hops between would have arrived earlier.
 ///
 /// Refuses lanes outside 1 to 4 by `GridSize`, scratch that is too small by `TooFewSlots`, fields by `BadEndpoints` and

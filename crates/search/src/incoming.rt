@@ -1,5 +1,4 @@
 // The links that lead to each tile.
-ghost use Rattle.std.specs.Prelude.{◌≡◌, ◌<◌, None, slice_index_or};
 ghost use Rattle.search.specs.Incoming.{Chains};
 
 use layouts::layout::Layout;

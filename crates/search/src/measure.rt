@@ -4,7 +4,7 @@ ghost use Rattle.search.specs.Scales.{Scale, Ordered, Antisymmetric};
 
 /// What a route measures: a value that each hop extends by the load of its link, and an order of the values.
 ///
-/// A measure is known by its scale: its answers.
+/// A measure is known by its scale, the record of its answers.
 pub trait Measure {
     /// The kind of value that the measure counts in.
     type Value: Copy;
@@ -27,6 +27,6 @@ pub trait Measure {
     // the laws that the search rests on
     ghost ordered: { (measure : Self) → Ordered (scale measure) };
 
-    // that values which rank level are the same; the search does not rest on it
+    // that values which are not above each other are the same; the search does not rest on it
     ghost antisymmetric: { (measure : Self) → Antisymmetric (scale measure) };
 }

@@ -4,8 +4,8 @@ ghost use Rattle.search.specs.ScaleLaws.{peak_ordered, peak_antisymmetric};
 
 use crate::measure::Measure;
 
-/// The largest load over the hops, and the number of hops that bear it, held at 65,535; the load is compared first.
-#[derive(Clone, Copy)]
+/// The largest load over the hops, and the number of hops that bear it, at most 65,535; the load is compared first.
+#[derive(Clone, Copy, PartialEq, Eq, Debug)]
 pub struct Peak;
 
 impl Measure for Peak {

@@ -1,4 +1,4 @@
-// Places, the lanes of all links counted in a row, and which of them a walk may come from.
+// Places, the lanes of all links numbered one after another, and which of them a walk may come from.
 ghost use Rattle.std.specs.Prelude.{◌≡◌, ℕ, suc, ◌*◌, ◌<◌, ◌≤◌, Some, length};
 ghost use Rattle.search.specs.Walks.{problem_in, places, hop_of};
 ghost use Rattle.search.specs.Rows.{marks_in, values_in, lane_before, place_before, is_arrival, Before, Arrival, Least, lesser};
@@ -41,7 +41,7 @@ impl<L: Layout, M: Measure> Search<'_, L, M> {
         }
     }
 
-    // The place of row k on a link from which a walk may go on to a hop, on the highest lane, if one is marked there.
+    // The place on a link from which a walk may go on to a hop: on the highest lane that the turn allows, if row k marks it.
     fn place_before(&self, marks: &[u16], k: usize, hop: Hop, link: u16) -> Option<usize>
         requires marks { suc k * places (problem_in (L.meaning self.now.layout.now) self.now.prepared) ≤ length marks.now }
         requires lane { hop.lane < self.now.prepared.lanes }

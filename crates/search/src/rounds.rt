@@ -1,5 +1,5 @@
 // The rounds of a search: row after row of walks, each one hop longer.
-ghost use Rattle.std.specs.Prelude.{◌≡◌, ◌+◌, ◌*◌, ◌<◌, ◌≤◌, length};
+ghost use Rattle.std.specs.Prelude.{◌*◌, ◌<◌, ◌≤◌, length};
 ghost use Rattle.search.specs.Walks.{problem_in, places};
 ghost use Rattle.search.specs.Rows.{marks_in, values_in, Tells, RowBefore, Row};
 

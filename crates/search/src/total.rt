@@ -4,8 +4,8 @@ ghost use Rattle.search.specs.ScaleLaws.{total_ordered, total_antisymmetric};
 
 use crate::measure::Measure;
 
-/// The sum of the loads over the hops, held at 4,294,967,295.
-#[derive(Clone, Copy)]
+/// The sum of the loads over the hops, at most 4,294,967,295.
+#[derive(Clone, Copy, PartialEq, Eq, Debug)]
 pub struct Total;
 
 impl Measure for Total {

@@ -11,7 +11,7 @@ use Rattle.grid.specs.Seeks.{Seeks}
 use Rattle.script.specs.declared.command.MeasureName.{MeasureName}
 use Rattle.script.specs.declared.command.MeasureName.TheVariants.{Total, Peak}
 use Rattle.session.specs.Measures.{scale_of}
-use Rattle.session.specs.Sessions.{SeeksBy}
+use Rattle.session.specs.Sessions.{SeeksByName}
 
 module _ (m : Meaning) (t t' : Tables) (n : ℕ) (q : Request) (values marks : ℕ) where
   seeks_so : {V W : Type 0} (large : Scale W) (small : Scale V) (value : V → W) → Holds large small value → (a : Result ℕ Declined)
@@ -19,7 +19,7 @@ module _ (m : Meaning) (t t' : Tables) (n : ℕ) (q : Request) (values marks : �
   seeks_so large small value holds (Ok count) seeks = (seeks.0, seeks.1, finds_so large small value holds _ _ q (Ok seeks.0) seeks.2, seeks.3)
   seeks_so large small value holds (Err d) seeks = (finds_so large small value holds _ _ q (Err d) seeks.0, seeks.1)
 
-pub seeks_by : (m : Meaning) (t t' : Tables) (n : ℕ) (q : Request) (measure : MeasureName) (a : Result ℕ Declined)
-    → Seeks (scale_of measure) m t n q (values_needed m.links t.lanes.size.lanes) (marks_needed m.links t.lanes.size.lanes) a t' → SeeksBy measure m t n q a t'
-seeks_by m t t' n q Total a seeks = seeks_so m t t' n q _ _ (scale_of Total) total _ (holds_first total peak) a seeks
-seeks_by m t t' n q Peak a seeks = seeks_so m t t' n q _ _ (scale_of Peak) peak _ (holds_second total peak) a seeks
+pub seeks_by_name : (m : Meaning) (t t' : Tables) (n : ℕ) (q : Request) (measure : MeasureName) (a : Result ℕ Declined)
+    → Seeks (scale_of measure) m t n q (values_needed m.links t.lanes.size.lanes) (marks_needed m.links t.lanes.size.lanes) a t' → SeeksByName measure m t n q a t'
+seeks_by_name m t t' n q Total a seeks = seeks_so m t t' n q _ _ (scale_of Total) total _ (holds_first total peak) a seeks
+seeks_by_name m t t' n q Peak a seeks = seeks_so m t t' n q _ _ (scale_of Peak) peak _ (holds_second total peak) a seeks

@@ -75,15 +75,15 @@ by_mesh f (Some m) = f m
 -- ---- grids
 
 -- a grid has the links of its layout, and as many slots as its lanes can contain items
-abbrev pub AllSlots : GridHand → Type 0
-AllSlots g = (g.layout.links ≡ g.tables.lanes.size.links) × (length g.slots ≡ slot_count g.tables.lanes.size)
+abbrev pub IsComplete : GridHand → Type 0
+IsComplete g = (g.layout.links ≡ g.tables.lanes.size.links) × (length g.slots ≡ slot_count g.tables.lanes.size)
 
 -- A blank grid on a mesh, with a slot for each item that its lanes can contain. What the slots hold is left open.
 pub record NewGrid (m : Meaning) (lanes depth capacity : ℕ) (g : GridHand) : Type 0 where
   pub allowed : making_refusal lanes depth capacity ≡ None
   pub layout_is : g.layout ≡ m
   pub blank : BlankTables m.links lanes depth capacity g.tables
-  pub enough : AllSlots g
+  pub enough : IsComplete g
 
 -- A grid is made on a mesh, and both are at hand; or its mesh is refused, or the grid, or there is no memory, and all is
 -- as before. Memory has to hold the tables, the slots and the scratch of seeks, so also a grid that nothing declines may find none.
@@ -102,7 +102,7 @@ by_grid f (Some g) = f g
 -- a call on the grid at hand, which has all its slots, by what it answers and leaves of the grid
 abbrev pub OnGrid : (GridHand → Response → GridHand → Type 0) → Option Meaning → Option GridHand → Response → Hand → Type 0
 OnGrid Calls mesh None r after = (r ≡ Err (failure.Mistake NoGrid)) × (after ≡ record { mesh = mesh; grid = None })
-OnGrid Calls mesh (Some g) r after = AllSlots g × ((g' : GridHand) × Calls g r g' × (after ≡ record { mesh = mesh; grid = Some g' }))
+OnGrid Calls mesh (Some g) r after = IsComplete g × ((g' : GridHand) × Calls g r g' × (after ≡ record { mesh = mesh; grid = Some g' }))
 
 -- what a value answers, or the refusal
 abbrev pub response_by : {A : Type 0} → (A → Answer) → Result A Refusal → Response
@@ -165,14 +165,14 @@ sought n g (Ok count) = route n g
 sought n g (Err d) = Err (failure.Declined d)
 
 -- a seek by a named measure, with all the scratch that it needs
-abbrev pub SeeksBy : MeasureName → Meaning → Tables → ℕ → Request → Result ℕ Declined → Tables → Type 0
-SeeksBy Total m t n q a t' = Seeks total m t n q (values_needed m.links t.lanes.size.lanes) (marks_needed m.links t.lanes.size.lanes) a t'
-SeeksBy Peak m t n q a t' = Seeks peak m t n q (values_needed m.links t.lanes.size.lanes) (marks_needed m.links t.lanes.size.lanes) a t'
+abbrev pub SeeksByName : MeasureName → Meaning → Tables → ℕ → Request → Result ℕ Declined → Tables → Type 0
+SeeksByName Total m t n q a t' = Seeks total m t n q (values_needed m.links t.lanes.size.lanes) (marks_needed m.links t.lanes.size.lanes) a t'
+SeeksByName Peak m t n q a t' = Seeks peak m t n q (values_needed m.links t.lanes.size.lanes) (marks_needed m.links t.lanes.size.lanes) a t'
 
 -- A seek is lent no slots. Which of equally good routes it takes is left open.
 abbrev pub Searches : ℕ → Request → MeasureName → GridHand → Response → GridHand → Type 0
 Searches n q measure g r g' =
-    (a : Result ℕ Declined) × SeeksBy measure g.layout g.tables n q a g'.tables
+    (a : Result ℕ Declined) × SeeksByName measure g.layout g.tables n q a g'.tables
     × (g'.layout ≡ g.layout) × (g'.slots ≡ g.slots) × (r ≡ sought n g' a)
 
 -- ---- commands and lines

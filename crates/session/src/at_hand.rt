@@ -36,7 +36,7 @@ pub(crate) struct GridAtHand {
     ghost all_marks: { length (vec_items marks) ≡ marks_needed grid.tables.lanes.size.links grid.tables.lanes.size.lanes },
 }
 
-// So many of an item.
+// A vector of so many copies of an item.
 fn filled<T: Copy + Drop>(heap: Global, item: T, count: usize) -> Result<Vec<T>, MakeError>
     ensures { MatchResult result (λ items. length (vec_items items) ≡ count) (λ e. e ≡ OutOfMemory) }
 {

@@ -15,11 +15,11 @@ returns-in_ok-open-in-Open-clause-made g c =
       refl,
     )
 
-pub returns-in_ok-hops-in-Seek-clause-made : goal.returns-in_ok-hops-in-Seek-clause-made
-returns-in_ok-hops-in-Seek-clause-made g c =
-    let found = c.in_ok-hops-in-Seek.ensures.made in
+pub returns-in_ok-count-in-Seek-clause-made : goal.returns-in_ok-count-in-Seek-clause-made
+returns-in_ok-count-in-Seek-clause-made g c =
+    let found = c.in_ok-count-in-Seek.ensures.made in
     rw c.in-Seek.is (
-      Ok c.in_ok-hops-in-Seek.hops,
+      Ok c.in_ok-count-in-Seek.count,
       (found.0, found.1, found.2, opened _ c.args.grid.now.tables c.seek.new.self.tables c.args.slots.now c.in-Seek.stream None c.in-Seek.request found.0 found.3),
       refl,
     )

@@ -6,7 +6,7 @@ use Rattle.refusals.specs.declared.refusal.Refusal.TheVariants.{TooFewSlots}
 use Rattle.routes.specs.Routes.{lanes_allowed}
 use Rattle.routes.specs.Checks.{terms_of}
 use Rattle.routes.specs.Verdicts.{passed_by}
-use Rattle.search.specs.Walks.{Problem, FindsWalk}
+use Rattle.search.specs.Walks.{problem, FindsWalk}
 use Rattle.search.specs.Finds.{search_refusal}
 use Rattle.search.proofs.Accepting.{finds}
 use Rattle.search.proofs.find.find.Goals as goal
@@ -25,6 +25,6 @@ returns-clause-found g c =
     let lanes : lanes_allowed c.args.limits.lanes ≡ true = and_from _ _ (le-leb 1 c.args.limits.lanes c.if-limits-lt1.false) (le-leb c.args.limits.lanes 4 c.if-limits-gt4.false) in
     let fields = passed_by _ c.in_ok-judge_fields.ensures in
     let scratch = rw c.links-links.ensures at (enough _ c.in_ok-check_scratch.ensures) in
-    let same = ap (λ costs. let P : Problem = record { layout = m; lanes = c.args.limits.lanes; costs = costs; source = q.source; target = q.target } in P) (fun_ext c.costs.ensures) in
+    let same = ap (λ costs. problem m c.args.limits.lanes costs q) (fun_ext c.costs.ensures) in
     rw (c.ok_or.ensures.value, c.into-2.ensures)
     (finds t q s (search_refusal t q (length c.args.values.now) (length c.args.marks.now)) c.best.result (rw (lanes, scratch, fields) refl) fields (subst (λ P. FindsWalk s P c.best.result) same c.best.ensures))

@@ -1,7 +1,7 @@
 use Rattle.std.proofs.Common.{length, Ok, refl, sym, ap, ◌∙◌}
 use Rattle.layouts.specs.Mesh.{meaning_of}
 use Rattle.search.specs.Finds.{values_needed, marks_needed}
-use Rattle.session.proofs.Measuring.{seeks_by}
+use Rattle.session.proofs.Measuring.{seeks_by_name}
 use Rattle.session.proofs.at_hand.GridAtHand.seek.Goals as goal
 
 pub returns : goal.returns
@@ -12,7 +12,7 @@ returns c =
     let marks = ap length c.as_mut_slice-2.ensures.value ∙ hand.all_marks ∙ ap (λ links. marks_needed links lanes) (sym hand.grid.fits) in
     let sought = c.in_ok-seek.ensures in (
       Ok c.in_ok-seek.field-0,
-      seeks_by (meaning_of hand.grid.layout) hand.grid.tables _ c.args.stream c.args.request c.args.measure (Ok c.in_ok-seek.field-0)
+      seeks_by_name (meaning_of hand.grid.layout) hand.grid.tables _ c.args.stream c.args.request c.args.measure (Ok c.in_ok-seek.field-0)
           (rw (c.measure_of.ensures, values, marks) at sought.made),
       ap meaning_of sought.layout,
       refl,

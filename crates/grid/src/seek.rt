@@ -20,7 +20,7 @@ impl<L: Layout> Grid<L> {
     /// not touched.
     ///
     /// Refuses scratch that is too small by `TooFewSlots`, a number above 63 by `NoSuchStream`, an open stream by `AlreadyOpen`, fields
-    /// by `BadEndpoints` and `ZeroAmount`, and says `NoRoute` exactly where `open` would take no route.
+    /// by `BadEndpoints` and `ZeroAmount`; where nothing of this is refused, it says `NoRoute` exactly if `open` would take no route.
     pub fn seek<M: Measure>(
         &mut self,
         stream: u16,

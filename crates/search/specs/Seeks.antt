@@ -18,8 +18,8 @@ seek_refusal t streams n q values marks =
     first_of (unless (enough_scratch t.layout.links t.lanes values marks) TooFewSlots ∷ (declines (vacancy streams n) ∷ field_checks t.layout q))
 
 -- On a grid of so many lanes and a capacity, with these streams open and so much scratch, a seek finds a best route for a stream, or
--- tells what declines it; it says that there is no route exactly where none is acceptable. Which of equally good routes is found
--- is left open.
+-- tells what declines it; where nothing does, it says that there is no route exactly if none is acceptable. Which of equally good
+-- routes is found is left open.
 abbrev pub SeekFinds : {V : Type 0} → Scale V → Meaning → ℕ → ℕ → (ℕ → Option OpenStream) → ℕ → Request → ℕ → ℕ → Result (List Hop) Declined → Type 0
 SeekFinds s m lanes capacity streams n q values marks r =
     let t : Terms = terms_on m lanes capacity streams in

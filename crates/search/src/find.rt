@@ -48,7 +48,7 @@ impl<L: Layout, M: Measure> Search<'_, L, M> {
 /// the walk without the hops between would have arrived earlier.
 ///
 /// Refuses lanes outside 1 to 4 by `GridSize`, scratch that is too small by `TooFewSlots`, fields by `BadEndpoints` and
-/// `ZeroAmount`, and says `NoRoute` exactly where no route is acceptable.
+/// `ZeroAmount`; where nothing of this is refused, it says `NoRoute` exactly if no route is acceptable.
 pub fn find<L: Layout, M: Measure>(
     layout: &L,
     limits: Limits<'_>,

@@ -10,10 +10,11 @@ use Rattle.search.specs.Scales.{Scale, Ordered}
 use Rattle.search.specs.Best.{measured, Best, NoneAcceptable}
 use Rattle.search.specs.Finds.{Finds}
 use Rattle.search.proofs.Picking.{level}
+use Rattle.examples.specs.Examples.{Only}
 
 -- a best route, where no other route is best
 abbrev pub OnlyBest : {V : Type 0} → Scale V → Terms → Request → List Hop → Type 0
-OnlyBest s t q hops = Best s t q hops × ((other : List Hop) → Best s t q other → other ≡ hops)
+OnlyBest s t q = Only (Best s t q)
 
 module _ {V : Type 0} (s : Scale V) (ordered : Ordered s) (t : Terms) (q : Request) (hops : List Hop) where
   abbrev measure : List Hop → V
@@ -45,7 +46,7 @@ module _ {V : Type 0} (s : Scale V) (ordered : Ordered s) (t : Terms) (q : Reque
 
 module _ {V : Type 0} (s : Scale V) (refusal : Option Declined) (t : Terms) (q : Request) (free : refusal ≡ None) where
   abbrev OnlyFinds : Result (List Hop) Declined → Type 0
-  OnlyFinds expected = Finds refusal s t q expected × ((r : Result (List Hop) Declined) → Finds refusal s t q r → r ≡ expected)
+  OnlyFinds = Only (Finds refusal s t q)
 
   -- the only best route is found
   pub only_finds : (hops : List Hop) → OnlyBest s t q hops → OnlyFinds (Ok hops)

@@ -108,10 +108,12 @@ Found s rule lanes past q r =
     let m : Meaning = mesh_meaning rule 3 3 in
     SeekFinds s m lanes 100 (after (square rule lanes) past).streams 5 q (values_needed m.links lanes) (marks_needed m.links lanes) r
 
--- it finds this, and nothing else
+-- this is so of one thing, and of nothing else
+abbrev pub Only : {A : Type 0} → (A → Type 0) → A → Type 0
+Only {A} P a = P a × ((b : A) → P b → b ≡ a)
+
 abbrev pub OnlyFinds : {V : Type 0} → Scale V → TurnRule → ℕ → History ℕ → Request → Result (List Hop) Declined → Type 0
-OnlyFinds s rule lanes past q expected =
-    Found s rule lanes past q expected × ((r : Result (List Hop) Declined) → Found s rule lanes past q r → r ≡ expected)
+OnlyFinds s rule lanes past q = Only (Found s rule lanes past q)
 
 -- With the stream of demand 80 open, links 0 and 13 cannot bear 30 more, and the other way has to climb. So with one lane a seek says
 -- that there is no route, and with two lanes it goes the other way.

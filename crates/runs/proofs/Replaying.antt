@@ -23,7 +23,7 @@ use Rattle.grid.specs.Seeks.{SeekFindsIn}
 use Rattle.runs.specs.declared.call.Call.{Call}
 use Rattle.runs.specs.declared.call.Call.TheVariants.{Open, Seek, Close, Send, Step}
 use Rattle.runs.specs.declared.call.Reply.{Reply}
-use Rattle.runs.specs.Calls.{reply, seek_reply, Shown, Answers, MakesCall}
+use Rattle.runs.specs.Calls.{StandsFor, seek_reply, Shown, Answers, MakesCall}
 use Rattle.runs.specs.Runs.{Conditions, setting_in, Continues, CallContinues, LeadsTo, LeftBy}
 use Rattle.runs.proofs.Showing.{length-slots_after}
 
@@ -109,7 +109,7 @@ module _ {M V T : Type 0} (R : Conditions M V) where
         → Answers R.layout t xs' asked r t' xs'' → Shown t' xs'' → OneMore c r
     answered c asked r follows makes shown = record {
       next = past ▸ asked;
-      follows = follows (past ▸ asked) (makes.2 ∙ ap reply (answer_is asked makes.0 makes.1 shown), refl);
+      follows = follows (past ▸ asked) (subst (StandsFor r) (answer_is asked makes.0 makes.1 shown) makes.2, refl);
       remains = left_more asked makes.0 makes.1 shown;
     }
 

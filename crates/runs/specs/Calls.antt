@@ -3,26 +3,26 @@ use Rattle.std.specs.Prelude.{◌≡◌, ℕ, List, Ok, Err, Result, vec_items}
 use Rattle.layouts.specs.Layout.{Meaning}
 use Rattle.routes.specs.declared.declined.Declined.{Declined}
 use Rattle.routes.specs.declared.stream.Request.{Request}
-use Rattle.model.specs.Calls.{Call as GridCall, opens, closes, sends, steps, Answer, declined, done, moved, out}
+use Rattle.model.specs.Calls.{Call as GridCall, opens, closes, sends, steps, Answer, declined, done}
 use Rattle.model.specs.Outlines.{without_items}
 use Rattle.search.specs.Scales.{Scale}
 use Rattle.search.specs.Seeks.{SeekBy}
 use Rattle.lanes.specs.Queues.{queues_of, outline}
-use Rattle.grid.specs.declared.step.Step.TheVariants.{Moved, Out}
 use Rattle.grid.specs.declared.tables.Tables.{Tables}
-use Rattle.grid.specs.Makes.{Same, Makes}
+use Rattle.grid.specs.Makes.{step_answer, Same, Makes}
 use Rattle.grid.specs.Seeks.{SeekFindsIn}
 use Rattle.runs.specs.declared.call.Call.{Call}
 use Rattle.runs.specs.declared.call.Call.TheVariants.{Open, Seek, Close, Send, Step}
 use Rattle.runs.specs.declared.call.Reply.{Reply}
 use Rattle.runs.specs.declared.call.Reply.TheVariants.{Done, Found, Stepped}
 
--- the answer to a call of the grid in words
-abbrev pub reply : {T : Type 0} → Answer T → Result (Reply T) Declined
-reply (declined d) = Err d
-reply done = Ok Done
-reply (moved n) = Ok (Stepped (Moved n))
-reply (out n x) = Ok (Stepped (Out n x))
+-- A reply stands for the answer to a call of the grid in words. That of a seek stands for none: what a seek was in words is told
+-- by its history.
+abbrev pub StandsFor : {T : Type 0} → Result (Reply T) Declined → Answer T → Type 0
+StandsFor (Ok Done) a = a ≡ done
+StandsFor (Ok (Found count)) a = ⊥
+StandsFor (Ok (Stepped s)) a = a ≡ step_answer s
+StandsFor (Err d) a = a ≡ declined d
 
 -- the reply to a seek
 abbrev pub seek_reply : {T : Type 0} → Result ℕ Declined → Result (Reply T) Declined
@@ -36,7 +36,7 @@ Shown t slots = without_items (queues_of t.lanes slots) ≡ outline t.lanes
 
 -- a call of the grid in words is made and answered so
 abbrev pub Answers : {T : Type 0} → Meaning → Tables → List T → GridCall T → Result (Reply T) Declined → Tables → List T → Type 0
-Answers {T} m t xs c r t' xs' = (a : Answer T) × Makes m t xs c a t' xs' × (r ≡ reply a)
+Answers {T} m t xs c r t' xs' = (a : Answer T) × Makes m t xs c a t' xs' × StandsFor r a
 
 -- a seek, with so much scratch lent, opens a stream on the route that it finds, or changes nothing
 abbrev pub MakesSeek : {T V : Type 0} → Scale V → ℕ → ℕ → Meaning → Tables → List T → ℕ → Request → Result (Reply T) Declined → Tables → List T → Type 0

@@ -18,7 +18,7 @@ use Rattle.grid.specs.Views.{view, outline}
 use Rattle.runs.specs.declared.call.Call.{Call}
 use Rattle.runs.specs.declared.call.Call.TheVariants.{Open, Seek, Close, Send, Step}
 use Rattle.runs.specs.declared.call.Reply.{Reply}
-use Rattle.runs.specs.Calls.{reply, seek_reply}
+use Rattle.runs.specs.Calls.{StandsFor, seek_reply}
 
 -- The conditions of a run: the layout and the sizes of the grid, how many slots, measure values and marks are lent, and what
 -- the measures of its seeks count in.
@@ -32,6 +32,7 @@ pub record Conditions (M V : Type 0) : Type 0 where
   pub marks : ℕ
   pub scale : M → Scale V
 
+-- the conditions of these parts, in one term
 abbrev pub conditions : {M V : Type 0} → Meaning → ℕ → ℕ → ℕ → ℕ → ℕ → ℕ → (M → Scale V) → Conditions M V
 conditions m lanes depth capacity slots values marks scale = record {
   layout = m;
@@ -44,12 +45,13 @@ conditions m lanes depth capacity slots values marks scale = record {
   scale = scale;
 }
 
+-- the setting of the grid of a run
 abbrev pub setting_in : {M V : Type 0} → Conditions M V → Setting
 setting_in R = on_layout R.layout R.lanes R.depth R.capacity R.slots
 
 -- a call of the grid in words, made after those of a past, is answered so, and is then part of the past
 abbrev pub Continues : {M V T : Type 0} → Conditions M V → History T → GridCall T → Result (Reply T) Declined → History T → Type 0
-Continues R past c r next = (r ≡ reply (answer_to (setting_in R) past c)) × (next ≡ past ▸ c)
+Continues R past c r next = StandsFor r (answer_to (setting_in R) past c) × (next ≡ past ▸ c)
 
 -- What a seek answers after a past. One that is not declined is the opening of the stream on the route that it finds, a best one; one
 -- that is declined has not been.

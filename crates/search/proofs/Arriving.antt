@@ -1,5 +1,5 @@
 -- The first round at which a walk arrives ends the search.
-use Rattle.std.proofs.Common.{◌≡◌, ℕ, zero, suc, ◌+◌, ◌-◌, ◌*◌, ◌/◌, ◌<◌, ◌≤◌, true, false, List, [], ◌∷◌, length, length-take, take, Some, None, Ok, Err, Result, sym, refl, ap, ◌∙◌, subst, ⊎_elim, arith}
+use Rattle.std.proofs.Common.{◌≡◌, ℕ, zero, suc, ◌+◌, ◌-◌, ◌/◌, ◌<◌, ◌≤◌, true, false, List, [], ◌∷◌, length, length-take, take, Some, None, Ok, Err, Result, sym, refl, ap, ◌∙◌, ⊎_elim, arith}
 use Rattle.std.proofs.lemmas.Bool.{cases_lt, and_parts, and_from, lt-ltb, le-leb, ltb-true, eqb-true, eq-eqb, false≢true}
 use Rattle.std.proofs.lemmas.List.{get_or-take}
 use Rattle.std.specs.Result.{MatchResult, result_ok}
@@ -9,9 +9,10 @@ use Rattle.routes.specs.declared.hop.Hop.{Hop}
 use Rattle.routes.specs.declared.route.Route.{Route}
 use Rattle.routes.specs.Routes.{hops_of, hop_on, hop_at, count_fits}
 use Rattle.search.specs.Scales.{Scale, Ordered}
-use Rattle.search.specs.Walks.{Problem, places, hop_of, Walk, Arrives, value_of, NoneWithin, back, BestWalk, FindsWalk}
+use Rattle.search.specs.Walks.{Problem, places, Walk, Arrives, value_of, NoneWithin, back, BestWalk, FindsWalk}
 use Rattle.search.specs.Rows.{earlier, path, Reached, Row, Least, Arrival}
-use Rattle.search.proofs.Walking.{place_there, hop_of_place, usable_last}
+use Rattle.search.proofs.Walking.{place_of}
+use Rattle.search.proofs.NextRow.{ends}
 
 -- a walk to a place of row k has k + 1 hops
 length-earlier : (P : Problem) (marks : ℕ → ℕ → ℕ) (k mark : ℕ) → length (earlier P marks k mark) ≡ k
@@ -28,24 +29,15 @@ module _ {V : Type 0} (s : Scale V) (P : Problem) (marks : ℕ → ℕ → ℕ) 
   at : (walk : List Hop) → Walk P walk → length walk ≡ suc k → Arrives P walk → At walk
   at [] is long arrives = absurd is
   at (h ∷ rest) is long arrives =
-      let usable = usable_last P h rest is in
-      let place : ℕ = h.link * P.lanes + h.lane in
-      let there = place_there P h.link h.lane usable.link usable.lane in
-      let is_hop = hop_of_place P h.link h.lane usable.lane in
-      let walk : Walk P (hop_of P place ∷ rest) = subst (λ top. Walk P (top ∷ rest)) (sym is_hop) is in
-      let short : length rest ≡ k = omega (arith, long) in
-      ⊎_elim
-      (λ (some : 0 < marks k place).
+      let last = ends s P marks values k row h rest (omega (arith, long)) is in
       record {
-        place = place;
+        place = place_of P h;
         arrival = record {
-          seen = there;
-          is = and_from _ _ (lt-ltb 0 (marks k place) some) (eq-eqb _ _ (ap (λ top. P.layout.end top.link) is_hop ∙ arrives));
+          seen = last.there;
+          is = and_from _ _ (lt-ltb 0 (marks k (place_of P h)) last.marked) (eq-eqb _ _ (ap (λ top. P.layout.end top.link) last.is_hop ∙ arrives));
         };
-        below = subst (λ top. s.not_above (values place) (value_of s P (top ∷ rest)) ≡ true) is_hop (((row place there).reached (omega arith)).least rest short walk);
-      })
-      (λ none. absurd ((row place there).unreached (omega arith) rest short walk))
-      (cases_lt 0 (marks k place))
+        below = last.below;
+      }
 
   pub none_arrives : Least s values (Arrival P marks k (places P)) None → NoneWithin P (k + 1)
   none_arrives none walk is few arrives =

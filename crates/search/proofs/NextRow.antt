@@ -1,5 +1,5 @@
 -- The rows of the search: each comes from the one before.
-use Rattle.std.proofs.Common.{◌≡◌, ℕ, suc, ◌+◌, ◌-◌, ◌*◌, ◌<◌, ◌≤◌, true, is_some, List, [], ◌∷◌, length, Some, None, sym, refl, ap, ◌∙◌, subst, ⊎_elim, arith}
+use Rattle.std.proofs.Common.{◌≡◌, ℕ, suc, ◌+◌, ◌-◌, ◌<◌, ◌≤◌, true, is_some, List, [], ◌∷◌, length, Some, None, sym, refl, ap, ◌∙◌, subst, ⊎_elim, arith}
 use Rattle.std.proofs.lemmas.Bool.{cases_lt, lt-ltb}
 use Rattle.std.proofs.lemmas.Nat.{div_below, mod_below}
 use Rattle.std.specs.Option.{unwrap_or}
@@ -8,13 +8,38 @@ use Rattle.routes.specs.Routes.{hop_on}
 use Rattle.search.specs.Scales.{Scale, Ordered}
 use Rattle.search.specs.Walks.{Problem, places, hop_of, Usable, Follows, Walk, value_of}
 use Rattle.search.specs.Rows.{path, Reached, Tells, Row, Least, Before}
-use Rattle.search.proofs.Walking.{highest, lane_low, may_follow, place_there, hop_of_place, raise, usable_last}
+use Rattle.search.proofs.Walking.{place_of, highest, lane_low, may_follow, place_there, hop_of_place, raise, usable_last}
 use Rattle.search.proofs.Picking.{Marked, marked}
 
 module _ {V : Type 0} (s : Scale V) (P : Problem) (marks : ℕ → ℕ → ℕ) where
-  -- ---- row k + 1 from row k
-
   module _ (values : ℕ → V) (k : ℕ) (row : Row s P marks values k (places P)) where
+    -- A walk of k + 1 hops ends at a place of row k that is marked, and whose value is not above what the walk measures.
+    pub record Ends (h : Hop) (rest : List Hop) : Type 0 where
+      pub there : place_of P h < places P
+      pub is_hop : hop_of P (place_of P h) ≡ h
+      pub marked : 0 < marks k (place_of P h)
+      pub below : s.not_above (values (place_of P h)) (value_of s P (h ∷ rest)) ≡ true
+
+    pub ends : (h : Hop) (rest : List Hop) → length rest ≡ k → Walk P (h ∷ rest) → Ends h rest
+    ends h rest long walk =
+        let usable = usable_last P h rest walk in
+        let there = place_there P h.link h.lane usable.link usable.lane in
+        let is_hop = hop_of_place P h.link h.lane usable.lane in
+        let to_place : Walk P (hop_of P (place_of P h) ∷ rest) = subst (λ top. Walk P (top ∷ rest)) (sym is_hop) walk in
+        let tells = row (place_of P h) there in
+        ⊎_elim
+        (λ (some : 0 < marks k (place_of P h)).
+        record {
+          there = there;
+          is_hop = is_hop;
+          marked = some;
+          below = subst (λ top. s.not_above (values (place_of P h)) (value_of s P (top ∷ rest)) ≡ true) is_hop ((tells.reached (omega arith)).least rest long to_place);
+        })
+        (λ none. absurd (tells.unreached (omega arith) rest long to_place))
+        (cases_lt 0 (marks k (place_of P h)))
+
+    -- ---- row k + 1 from row k
+
     -- A walk of one hop more comes from a place of row k that may come before its last hop, and whose value is not above what the
     -- walk measured there.
     pub record Comes (h : Hop) (rest : List Hop) : Type 0 where
@@ -31,23 +56,13 @@ module _ {V : Type 0} (s : Scale V) (P : Problem) (marks : ℕ → ℕ → ℕ) 
         let usable = walk.0 in
         let low = lane_low _ h.lane up.lane up.is in
         let is_lane : up.lane < P.lanes = omega (arith, usable.lane) in
-        let place : ℕ = g.link * P.lanes + up.lane in
-        let there = place_there P g.link up.lane from.link is_lane in
-        let is_hop = hop_of_place P g.link up.lane is_lane in
-        let raised : Walk P (hop_of P place ∷ rest) =
-        subst (λ top. Walk P (top ∷ rest)) (sym is_hop)
-        (raise P g (hop_on g.link up.lane) rest walk.2 (record { link = from.link; lane = is_lane; bears = from.bears }) refl up.above) in
-        let short : length rest ≡ k = omega (arith, long) in
-        let tells = row place there in
-        ⊎_elim
-        (λ (some : 0 < marks k place).
+        let raised = raise P g (hop_on g.link up.lane) rest walk.2 (record { link = from.link; lane = is_lane; bears = from.bears }) refl up.above in
+        let last = ends (hop_on g.link up.lane) rest (omega (arith, long)) raised in
         record {
-          place = place;
-          before = record { link = g.link; seen = omega arith; there = from.link; is = rw (up.is, lt-ltb 0 (marks k place) some) refl };
-          below = subst (λ top. s.not_above (values place) (value_of s P (top ∷ rest)) ≡ true) is_hop ((tells.reached (omega arith)).least rest short raised);
-        })
-        (λ none. absurd (tells.unreached (omega arith) rest short raised))
-        (cases_lt 0 (marks k place))
+          place = place_of P (hop_on g.link up.lane);
+          before = record { link = g.link; seen = omega arith; there = from.link; is = rw (up.is, lt-ltb 0 (marks k (place_of P (hop_on g.link up.lane))) last.marked) refl };
+          below = last.below;
+        }
 
     pub tells_not_next : (place : ℕ) (value : V) → Least s values (Before P marks k (hop_of P place) 0) None → Tells s P marks (suc k) place 0 value
     tells_not_next place value none = record {

@@ -49,6 +49,10 @@ may_follow m link lane h is = record { turns = may_turn _ h.lane lane is; keeps_
 -- ---- places and hops
 
 module _ (P : Problem) where
+  -- the place of a hop
+  abbrev pub place_of : Hop → ℕ
+  place_of h = h.link * P.lanes + h.lane
+
   pub place_there : (link lane : ℕ) → link < P.layout.links → lane < P.lanes → link * P.lanes + lane < places P
   place_there link lane is_link is_lane = omega (arith, mul-add-lt link P.lanes lane P.layout.links is_link is_lane, mul_comm P.lanes P.layout.links)
 

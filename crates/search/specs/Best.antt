@@ -25,5 +25,6 @@ pub record Best {V : Type 0} (s : Scale V) (t : Terms) (q : Request) (hops : Lis
   pub fewest : (other : List Hop) → Acceptable t q other → length hops ≤ length other
   pub least : (other : List Hop) → Acceptable t q other → length other ≡ length hops → s.not_above (measured s t q hops) (measured s t q other) ≡ true
 
+-- no route is acceptable
 abbrev pub NoneAcceptable : Terms → Request → Type 0
 NoneAcceptable t q = (hops : List Hop) → Acceptable t q hops → ⊥

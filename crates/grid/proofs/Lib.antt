@@ -4,3 +4,4 @@ pub mod Lifted
 pub mod ItemCalls
 pub mod Editing
 pub mod Seeking
+pub mod Sounding

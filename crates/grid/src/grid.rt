@@ -1,5 +1,7 @@
 // Grids.
 ghost use Rattle.std.specs.Prelude.{◌≡◌};
+ghost use Rattle.grid.specs.Views.{streams_in};
+ghost use Rattle.grid.specs.Sound.{Sound};
 
 use crate::tables::Tables;
 use layouts::layout::Layout;
@@ -11,4 +13,5 @@ pub struct Grid<L: Layout> {
     pub(crate) layout: L,
     pub(crate) tables: Tables,
     ghost fits: { (L.meaning layout).links ≡ tables.lanes.size.links },
+    ghost sound: { Sound (L.meaning layout) tables.lanes.size.lanes tables.capacity (streams_in tables) },
 }

@@ -36,7 +36,8 @@ impl Tables {
         stream: u16,
         item: T,
     ) -> Result<(), Refusal>
-        ensures { (m : Meaning) → m.links ≡ self.old.lanes.size.links → Makes m self.old slots.old (sends stream item) (answer_of (λ _. done) result) self.new slots.new }
+        ensures made { (m : Meaning) → m.links ≡ self.old.lanes.size.links → Makes m self.old slots.old (sends stream item) (answer_of (λ _. done) result) self.new slots.new }
+        ensures streams { self.new.streams ≡ self.old.streams }
     {
         if slots.len() < self.lanes.size().slots() {
             return Err(Refusal::TooFewSlots);
@@ -47,7 +48,8 @@ impl Tables {
 
     // Takes the front off a lane, and out of the grid or on to the next hop of its route.
     pub(crate) fn step<T: Copy>(&mut self, slots: &mut [T], hop: Hop) -> Result<Step<T>, Refusal>
-        ensures { (m : Meaning) → m.links ≡ self.old.lanes.size.links → Makes m self.old slots.old (steps hop.link hop.lane) (answer_of step_answer result) self.new slots.new }
+        ensures made { (m : Meaning) → m.links ≡ self.old.lanes.size.links → Makes m self.old slots.old (steps hop.link hop.lane) (answer_of step_answer result) self.new slots.new }
+        ensures streams { self.new.streams ≡ self.old.streams }
     {
         let (stream, _) = self.lanes.front(slots, hop)?;
         match self.next_hop(stream, hop.link) {

@@ -11,7 +11,7 @@ use layouts::layout::Layout;
 use refusals::refusal::Refusal;
 use routes::hop::Hop;
 use routes::load::link_load;
-use routes::stream::Request;
+use routes::stream::{Request, Stream};
 
 impl<L: Layout> Grid<L> {
     /// The layout.
@@ -26,6 +26,13 @@ impl<L: Layout> Grid<L> {
         ensures { result ≡ self.now.tables.lanes.size }
     {
         self.tables.lanes.size()
+    }
+
+    /// The open streams, by their numbers.
+    pub fn streams(&self) -> &[Option<Stream>; 64]
+        ensures { result.now ≡ self.now.tables.streams }
+    {
+        &self.tables.streams
     }
 
     /// What an open stream asked for. Refuses a number above 63 by `NoSuchStream`, and a stream that is not open by

@@ -1,6 +1,8 @@
-use Rattle.std.proofs.Common.{refl, sym}
+use Rattle.std.proofs.Common.{rules, ◌<◌, refl, sym}
 use Rattle.std.proofs.lemmas.Result.{err_from_is_err_and}
+use Rattle.routes.specs.Loads.{stream_count}
 use Rattle.grid.proofs.Editing.{edit_refused, edited, not_open, has_items, closed}
+use Rattle.grid.proofs.Sounding.{sound_without}
 use Rattle.grid.proofs.grid.Grid.close.Goals as goal
 
 pub returns-in_err-stream-clause-made : goal.returns-in_err-stream-clause-made
@@ -23,3 +25,10 @@ returns-clause-made g c =
     let m = g.L.Layout.meaning grid.layout in
     edited m grid.tables c.put.new.self c.args.stream _ _ c.put.ensures.streams c.put.ensures.lanes c.put.ensures.capacity
     (closed m grid.tables grid.fits c.args.stream _ (sym c.in_ok-stream.ensures.value) c.items_of.result c.items_of.ensures c.if-items_of-gt0.false) refl
+
+pub invariant_of-self-clause-sound : goal.invariant_of-self-clause-sound
+invariant_of-self-clause-sound g c =
+    let grid = c.args.self.now in
+    let low : c.args.stream < stream_count = search rules in
+    rw (c.put.ensures.lanes, c.put.ensures.capacity, c.put.ensures.streams)
+    (sound_without grid.sound c.args.stream low)

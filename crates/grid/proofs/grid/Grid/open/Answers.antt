@@ -1,7 +1,10 @@
-use Rattle.std.proofs.Common.{refl}
+use Rattle.std.proofs.Common.{rules, ◌<◌, refl}
 use Rattle.std.proofs.lemmas.Result.{err_from_is_err_and}
+use Rattle.routes.specs.Loads.{stream_count}
+use Rattle.routes.proofs.Judging.{acceptable}
 use Rattle.grid.specs.Views.{outline}
 use Rattle.grid.proofs.Editing.{edit_refused, edited, not_vacant, not_acceptable, opened}
+use Rattle.grid.proofs.Sounding.{sound_with}
 use Rattle.grid.proofs.grid.Grid.open.Goals as goal
 
 pub returns-in_err-vacant-clause-made : goal.returns-in_err-vacant-clause-made
@@ -25,3 +28,11 @@ returns-clause-made g c =
     let t = c.args.self.now.tables in
     edited (g.L.Layout.meaning c.args.self.now.layout) t c.put.new.self c.args.stream _ _ c.put.ensures.streams c.put.ensures.lanes c.put.ensures.capacity
     (rw c.in_ok-route.ensures.1 (opened _ (outline t) c.args.stream c.args.request c.args.hops.now c.in_ok-vacant.ensures c.in_ok-route.ensures.0)) refl
+
+pub invariant_of-self-clause-sound : goal.invariant_of-self-clause-sound
+invariant_of-self-clause-sound g c =
+    let grid = c.args.self.now in
+    let low : c.args.stream < stream_count = search rules in
+    rw (c.put.ensures.lanes, c.put.ensures.capacity, c.put.ensures.streams, c.in_ok-route.ensures.1)
+    (sound_with grid.sound c.args.stream c.args.request c.args.hops.now low
+    (acceptable _ c.args.request c.args.hops.now c.in_ok-route.ensures.0))

@@ -4,4 +4,8 @@ use Rattle.grid.proofs.grid.Grid.step.Goals as goal
 pub invariant_of-self : goal.invariant_of-self
 invariant_of-self g c =
     let grid = c.args.self.now in
-    record { fits = grid.fits ∙ ap (λ s. s.links) (sym (c.step.ensures (g.L.Layout.meaning grid.layout) grid.fits).size) }
+    let made = c.step.ensures.made (g.L.Layout.meaning grid.layout) grid.fits in
+    record {
+      fits = grid.fits ∙ ap (λ s. s.links) (sym made.size);
+      sound = rw (made.size, made.capacity, c.step.ensures.streams) grid.sound;
+    }

@@ -28,6 +28,13 @@ impl<L: Layout> Grid<L> {
         self.tables.lanes.size()
     }
 
+    /// How much demand each link can bear.
+    pub fn capacity(&self) -> u16
+        ensures { result ≡ self.now.tables.capacity }
+    {
+        self.tables.capacity
+    }
+
     /// The open streams, by their numbers.
     pub fn streams(&self) -> &[Option<Stream>; 64]
         ensures { result.now ≡ self.now.tables.streams }

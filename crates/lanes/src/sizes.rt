@@ -36,6 +36,13 @@ impl Size {
         self.lanes
     }
 
+    /// How many items a lane holds.
+    pub fn depth(self) -> u16
+        ensures { result ≡ self.depth }
+    {
+        self.depth
+    }
+
     /// How many item slots the lanes take.
     pub fn slots(self) -> usize
         ensures { result ≡ slot_count self }

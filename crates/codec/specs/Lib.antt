@@ -1,0 +1,4 @@
+pub mod Reads
+pub mod Numbers
+pub mod Heads
+pub mod Records

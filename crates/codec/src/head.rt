@@ -1,0 +1,234 @@
+// The head of a plan.
+ghost use Rattle.std.specs.Prelude.{◌≡◌, not, find};
+ghost use Rattle.codec.specs.Heads.{parts, allowed, refusal_of, number_of, fits, place_of, values_of, head_at, judged};
+
+use crate::number::{ByteFault, Number, read_number};
+use refusals::refusal::Refusal;
+
+/// The numbers of a plan's head, but the count of its streams.
+#[derive(Clone, Copy, PartialEq, Eq, Debug)]
+pub struct Head {
+    pub version: u16,
+    pub rule: u16,
+    pub width: u16,
+    pub height: u16,
+    pub lanes: u16,
+    pub depth: u16,
+    pub capacity: u16,
+}
+
+/// What a grid is that a head has to fit.
+#[derive(Clone, Copy, PartialEq, Eq, Debug)]
+pub struct GridSizes {
+    pub lanes: u16,
+    pub depth: u16,
+    pub capacity: u16,
+}
+
+/// A number of the head, in the order in which they stand.
+#[derive(Clone, Copy, PartialEq, Eq, Debug)]
+pub enum HeadPart {
+    Version,
+    Rule,
+    Width,
+    Height,
+    Lanes,
+    Depth,
+    Capacity,
+    Count,
+}
+
+/// Why a head is refused, and at which of its numbers.
+#[derive(Clone, Copy, PartialEq, Eq, Debug)]
+pub struct HeadFault {
+    pub refusal: Refusal,
+    pub part: HeadPart,
+}
+
+/// The numbers of a head as they stand in a plan.
+#[derive(Clone, Copy, PartialEq, Eq, Debug)]
+pub struct HeadNumbers {
+    pub version: Number,
+    pub rule: Number,
+    pub width: Number,
+    pub height: Number,
+    pub lanes: Number,
+    pub depth: Number,
+    pub capacity: Number,
+    pub count: Number,
+}
+
+impl HeadPart {
+    // All parts, in their order.
+    #[tactic(auto, unfolding(crate::specs::Heads::parts))]
+    fn all() -> [HeadPart; 8]
+        ensures { result ≡ parts }
+    {
+        [
+            HeadPart::Version,
+            HeadPart::Rule,
+            HeadPart::Width,
+            HeadPart::Height,
+            HeadPart::Lanes,
+            HeadPart::Depth,
+            HeadPart::Capacity,
+            HeadPart::Count,
+        ]
+    }
+
+    // Whether the format allows a number in this part.
+    fn allows(self, number: u16) -> bool
+        ensures { result ≡ allowed self number }
+    {
+        match self {
+            HeadPart::Version => number == 1,
+            HeadPart::Rule | HeadPart::Lanes => 1 <= number && number <= 4,
+            HeadPart::Width | HeadPart::Height => 2 <= number && number <= 8,
+            HeadPart::Depth => 1 <= number && number <= 8,
+            HeadPart::Capacity => number > 0,
+            HeadPart::Count => number <= 64,
+        }
+    }
+
+    // Why a number in this part is refused that the format does not allow.
+    fn refusal(self) -> Refusal
+        ensures { result ≡ refusal_of self }
+    {
+        match self {
+            HeadPart::Version | HeadPart::Rule | HeadPart::Count => Refusal::BadHead,
+            HeadPart::Width | HeadPart::Height => Refusal::MeshSize,
+            HeadPart::Lanes | HeadPart::Depth => Refusal::GridSize,
+            HeadPart::Capacity => Refusal::ZeroAmount,
+        }
+    }
+}
+
+impl Head {
+    // The number in a part of the head of a plan of so many streams.
+    fn number(&self, count: u16, part: HeadPart) -> u16
+        ensures { result ≡ number_of self.now count part }
+    {
+        match part {
+            HeadPart::Version => self.version,
+            HeadPart::Rule => self.rule,
+            HeadPart::Width => self.width,
+            HeadPart::Height => self.height,
+            HeadPart::Lanes => self.lanes,
+            HeadPart::Depth => self.depth,
+            HeadPart::Capacity => self.capacity,
+            HeadPart::Count => count,
+        }
+    }
+
+    // Whether a part is that of a grid, or of no concern to it.
+    fn fits(&self, grid: GridSizes, part: HeadPart) -> bool
+        ensures { result ≡ fits self.now grid part }
+    {
+        match part {
+            HeadPart::Lanes => self.lanes == grid.lanes,
+            HeadPart::Depth => self.depth == grid.depth,
+            HeadPart::Capacity => self.capacity == grid.capacity,
+            _ => true,
+        }
+    }
+
+    // The first part that is not allowed in the head of a plan of so many streams.
+    fn first_refused(&self, count: u16) -> Option<HeadPart>
+        ensures { result ≡ find (λ part. not (allowed part (number_of self.now count part))) parts }
+    {
+        let parts = HeadPart::all();
+        parts
+            .iter()
+            .copied()
+            .find(|part| !part.allows(self.number(count, *part)))
+    }
+
+    // The first part that does not fit a grid.
+    fn first_misfit(&self, grid: GridSizes) -> Option<HeadPart>
+        ensures { result ≡ find (λ part. not (fits self.now grid part)) parts }
+    {
+        let parts = HeadPart::all();
+        parts.iter().copied().find(|part| !self.fits(grid, *part))
+    }
+}
+
+/// Judges the head of a plan of so many streams: the first of its numbers that is not allowed, and else the first that does not fit the
+/// grid.
+///
+/// Refuses a version other than 1, a rule outside 1 to 4 and more than 64 streams by `BadHead`, a width or height outside 2 to 8 by
+/// `MeshSize`, lanes outside 1 to 4 and a depth outside 1 to 8 by `GridSize`, a capacity of 0 by `ZeroAmount`; and then, by `BadHead`,
+/// lanes, a depth or a capacity other than those of the grid.
+pub fn judge_head(head: &Head, count: u16, grid: GridSizes) -> Result<(), HeadFault>
+    ensures { result ≡ judged head.now count grid }
+{
+    if let Some(part) = head.first_refused(count) {
+        return Err(HeadFault {
+            refusal: part.refusal(),
+            part,
+        });
+    }
+    if let Some(part) = head.first_misfit(grid) {
+        return Err(HeadFault {
+            refusal: Refusal::BadHead,
+            part,
+        });
+    }
+    Ok(())
+}
+
+impl HeadNumbers {
+    /// The numbers themselves.
+    pub fn head(&self) -> Head
+        ensures { result ≡ values_of self.now }
+    {
+        Head {
+            version: self.version.value,
+            rule: self.rule.value,
+            width: self.width.value,
+            height: self.height.value,
+            lanes: self.lanes.value,
+            depth: self.depth.value,
+            capacity: self.capacity.value,
+        }
+    }
+
+    /// The byte at which a part starts.
+    pub fn place(&self, part: HeadPart) -> usize
+        ensures { result ≡ place_of self.now part }
+    {
+        match part {
+            HeadPart::Version => self.version.place,
+            HeadPart::Rule => self.rule.place,
+            HeadPart::Width => self.width.place,
+            HeadPart::Height => self.height.place,
+            HeadPart::Lanes => self.lanes.place,
+            HeadPart::Depth => self.depth.place,
+            HeadPart::Capacity => self.capacity.place,
+            HeadPart::Count => self.count.place,
+        }
+    }
+}
+
+/// Reads the numbers of a plan's head; none is judged.
+pub fn read_head(plan: &[u8]) -> Result<HeadNumbers, ByteFault>
+    ensures { result ≡ head_at plan.now }
+{
+    let version = read_number(plan, 0)?;
+    let rule = read_number(plan, version.next)?;
+    let width = read_number(plan, rule.next)?;
+    let height = read_number(plan, width.next)?;
+    let lanes = read_number(plan, height.next)?;
+    let depth = read_number(plan, lanes.next)?;
+    let capacity = read_number(plan, depth.next)?;
+    let count = read_number(plan, capacity.next)?;
+    Ok(HeadNumbers {
+        version,
+        rule,
+        width,
+        height,
+        lanes,
+        depth,
+        capacity,
+        count,
+    })
+}

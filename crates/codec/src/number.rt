@@ -1,0 +1,73 @@
+// The numbers of a plan, and how each is read.
+ghost use Rattle.std.specs.Prelude.{◌≡◌, ◌≤◌, ◌<◌, length, IfOk, drop, slice_range};
+ghost use Rattle.codec.specs.Numbers.{number_at, number_bytes};
+
+/// Why no number can be read at a byte of a plan.
+#[derive(Clone, Copy, PartialEq, Eq, Debug)]
+pub enum ByteFault {
+    /// The bytes end before the number that starts at this byte does.
+    Cut(usize),
+    /// The number that starts at this byte does not have its form: it is not written in the fewest bytes, goes on past the third, or is
+    /// above 65535.
+    Form(usize),
+}
+
+/// A number of a plan, the byte at which it starts, and the one behind its last.
+#[derive(Clone, Copy, PartialEq, Eq, Debug)]
+pub struct Number {
+    pub value: u16,
+    pub place: usize,
+    pub next: usize,
+}
+
+// The bytes of a plan from one on.
+fn bytes_from(plan: &[u8], place: usize) -> &[u8]
+    ensures { result.now ≡ drop place plan.now }
+{
+    &plan[place.min(plan.len())..]
+}
+
+/// Reads the number that starts at a byte of a plan.
+#[tactic(auto, unfolding(crate::specs::Numbers::number_bytes))]
+pub fn read_number(plan: &[u8], place: usize) -> Result<Number, ByteFault>
+    ensures value { result ≡ number_at plan.now place }
+    ensures within { IfOk result (λ n. (place < n.next) × (n.next ≤ length plan.now)) }
+    ensures stands { IfOk result (λ n. slice_range plan.now place n.next ≡ number_bytes n.value) }
+{
+    let [low, rest @ ..] = bytes_from(plan, place) else {
+        return Err(ByteFault::Cut(place));
+    };
+    if *low < 128 {
+        return Ok(Number {
+            value: u16::from(*low),
+            place,
+            next: place + 1,
+        });
+    }
+    let low = u16::from(*low - 128);
+    let [middle, rest @ ..] = rest else {
+        return Err(ByteFault::Cut(place));
+    };
+    if *middle == 0 {
+        return Err(ByteFault::Form(place));
+    }
+    if *middle < 128 {
+        return Ok(Number {
+            value: low + 128 * u16::from(*middle),
+            place,
+            next: place + 2,
+        });
+    }
+    let low = low + 128 * u16::from(*middle - 128);
+    let [high, ..] = rest else {
+        return Err(ByteFault::Cut(place));
+    };
+    if *high == 0 || *high > 3 {
+        return Err(ByteFault::Form(place));
+    }
+    Ok(Number {
+        value: low + 16384 * u16::from(*high),
+        place,
+        next: place + 3,
+    })
+}

@@ -1,0 +1,63 @@
+// The records of a plan.
+ghost use Rattle.std.specs.Prelude.{◌≡◌, ◌≤◌, ◌-◌, length, IfOk};
+ghost use Rattle.codec.specs.Records.{behind, hops_read, ReadsRecord};
+
+use crate::number::{ByteFault, read_number};
+use routes::stream::Request;
+
+/// A record of a plan: a stream, what it asks for, and the count of its hops. The bytes of the hops are a part of the plan itself, from
+/// `place` up to `next`; where the count is above 24, no hop is read, and they are none.
+#[derive(Clone, Copy)]
+pub struct Record<'a> {
+    pub stream: u16,
+    pub request: Request,
+    pub count: u16,
+    pub hops: &'a [u8],
+    pub place: usize,
+    pub next: usize,
+}
+
+// How many hops of a record are read.
+fn hops_read(count: u16) -> u16
+    ensures { result ≡ hops_read count }
+{
+    if count > 24 { 0 } else { count }
+}
+
+// The byte behind so many numbers, the first of which starts at a byte of the plan.
+#[tactic(auto, using(crate::proofs::Sequences::behind_none, crate::proofs::Sequences::behind_step))]
+fn skip_numbers(plan: &[u8], place: usize, count: u16) -> Result<usize, ByteFault>
+    requires { place ≤ length plan.now }
+    ensures value { result ≡ behind plan.now place count }
+    ensures within { IfOk result (λ next. (place ≤ next) × (next ≤ length plan.now)) }
+{
+    let mut next = place;
+    for _ in 0..count {
+        next = read_number(plan, next)?.next;
+    }
+    Ok(next)
+}
+
+/// Reads the record that starts at a byte of a plan; none of its numbers is judged.
+pub fn read_record(plan: &[u8], place: usize) -> Result<Record<'_>, ByteFault>
+    ensures { ReadsRecord plan.now place result }
+{
+    let stream = read_number(plan, place)?;
+    let source = read_number(plan, stream.next)?;
+    let target = read_number(plan, source.next)?;
+    let demand = read_number(plan, target.next)?;
+    let count = read_number(plan, demand.next)?;
+    let next = skip_numbers(plan, count.next, hops_read(count.value))?;
+    Ok(Record {
+        stream: stream.value,
+        request: Request {
+            source: source.value,
+            target: target.value,
+            demand: demand.value,
+        },
+        count: count.value,
+        hops: &plan[count.next..next],
+        place: count.next,
+        next,
+    })
+}

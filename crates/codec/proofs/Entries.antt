@@ -1,9 +1,12 @@
 -- A record, read number by number.
-use Rattle.std.proofs.Common.{◌≡◌, ℕ, List, map, Ok, refl, sym}
+use Rattle.std.specs.Prelude.{slice_range}
+use Rattle.std.proofs.Common.{◌≡◌, ℕ, List, length, map, Ok, refl, sym, ap, ◌∙◌}
 use Rattle.routes.specs.declared.hop.Hop.{Hop}
 use Rattle.codec.specs.declared.number.Number.{Number}
 use Rattle.codec.specs.Numbers.{number_at}
-use Rattle.codec.specs.Records.{Entry, Sequence, sequence, numbers_at, behind, hops_read, hop_of, record_at}
+use Rattle.codec.specs.Records.{Entry, Sequence, sequence, numbers_at, behind, hops_read, hop_of, hops_in, record_at}
+use Rattle.codec.proofs.Standing.{Bytes}
+use Rattle.codec.proofs.Hops.{read_alone}
 use Rattle.codec.proofs.Sequences.{numbers_behind}
 
 -- the record of five numbers, whose hops are these
@@ -24,8 +27,10 @@ module _ (plan : List ℕ) (start : ℕ) (stream source target demand count : Nu
       → record_at plan start ≡ Ok (entry stream source target demand count (map hop_of s.values) s.next)
   with_hops s is = rw (sym a, sym b, sym c, sym d, sym e, is) refl
 
-  pub record_read : (next : ℕ) → Ok next ≡ behind plan count.next (hops_read count.value)
-      → (hops : List Hop) × (record_at plan start ≡ Ok (entry stream source target demand count hops next))
-  record_read next is =
+  pub record_read : Bytes plan → (next : ℕ) → Ok next ≡ behind plan count.next (hops_read count.value)
+      → (record_at plan start ≡ Ok (entry stream source target demand count (hops_in (slice_range plan count.next next) (hops_read count.value)) next))
+      × (behind (slice_range plan count.next next) 0 (hops_read count.value) ≡ Ok (length (slice_range plan count.next next)))
+  record_read all next is =
       let hops = numbers_behind plan count.next (hops_read count.value) next (sym is) in
-      (map hop_of hops.0, with_hops (sequence hops.0 next) hops.1)
+      let alone = read_alone plan all (hops_read count.value) count.next (sequence hops.0 next) hops.1 in
+      (with_hops (sequence hops.0 next) hops.1 ∙ ap (λ hs. Ok (entry stream source target demand count hs next)) (sym alone.hops), alone.all)

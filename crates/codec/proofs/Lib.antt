@@ -1,5 +1,5 @@
 pub mod Sequences
-pub mod Entries
 pub mod Standing
 pub mod Sequenced
 pub mod Hops
+pub mod Entries

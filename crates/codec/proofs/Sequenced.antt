@@ -6,6 +6,7 @@ use Rattle.codec.specs.declared.number.Number.{Number}
 use Rattle.codec.specs.Reads.{then}
 use Rattle.codec.specs.Numbers.{number_at, number_bytes}
 use Rattle.codec.specs.Records.{Sequence, sequence, numbers_at, numbers_bytes}
+use Rattle.codec.proofs.Sequences.{then_ok}
 use Rattle.codec.proofs.Standing.{Bytes, in_front, written_read}
 
 -- each of these is a number of 16 bits
@@ -22,11 +23,6 @@ pub record StandAt (plan : List ℕ) (place : ℕ) (s : Sequence) : Type 0 where
 -- what is behind bytes that stand at a place
 pub behind_bytes : (plan : List ℕ) (place : ℕ) (bs rest : List ℕ) → drop place plan ≡ bs ++ rest → drop (place + length bs) plan ≡ rest
 behind_bytes plan place bs rest is = sym (drop-drop (length bs) place plan) ∙ (ap (drop (length bs)) is ∙ drop-append_seam bs rest)
-
--- what is read after a value, where something is
-pub then_ok : {A B E : Type 0} (r : Result A E) (f : A → Result B E) (y : B) → then r f ≡ Ok y → (x : A) × (r ≡ Ok x) × (f x ≡ Ok y)
-then_ok (Ok x) f y is = (x, refl, is)
-then_ok (Err e) f y is = cc
 
 bytes_behind : (plan : List ℕ) (place : ℕ) → Bytes plan → Bytes (drop place plan)
 bytes_behind plan place all k = rw (get_or-drop) (all (place + k))
@@ -63,6 +59,15 @@ module _ (plan : List ℕ) (all : Bytes plan) where
       let more = then_ok (numbers_at plan first.0.next n) _ s first.2 in
       let whole : sequence (first.0.value ∷ more.0.values) more.0.next ≡ s = cc in
       subst (StandAt plan place) whole (stand_after plan place first.0 more.0 (number_stands place first.0 first.1) (numbers_stand n first.0.next more.0 more.1))
+
+pub numbers_count : (plan : List ℕ) (n place : ℕ) (s : Sequence) → numbers_at plan place n ≡ Ok s → length s.values ≡ n
+unfolding numbers_at
+numbers_count plan zero place s is = let none : sequence [] place ≡ s = cc in ap (λ t. length t.values) (sym none)
+numbers_count plan (suc n) place s is =
+    let first = then_ok (number_at plan place) _ s is in
+    let more = then_ok (numbers_at plan first.0.next n) _ s first.2 in
+    let whole : sequence (first.0.value ∷ more.0.values) more.0.next ≡ s = cc in
+    ap (λ t. length t.values) (sym whole) ∙ ap suc (numbers_count plan n first.0.next more.0 more.1)
 
 pub numbers_read : (plan : List ℕ) (place : ℕ) (ns rest : List ℕ) → Small ns → drop place plan ≡ numbers_bytes ns ++ rest
     → numbers_at plan place (length ns) ≡ Ok (sequence ns (place + length (numbers_bytes ns)))

@@ -1,5 +1,5 @@
 -- The records of a plan: stream, source, target, demand, count of hops, and the hops.
-use Rattle.std.specs.Prelude.{◌≡◌, ℕ, zero, suc, ◌+◌, ◌*◌, ◌/◌, ◌%◌, cond, List, [], ◌∷◌, map, flat_map, Ok, Err, Result, nat_lt, slice_range}
+use Rattle.std.specs.Prelude.{◌≡◌, ℕ, zero, suc, ◌+◌, ◌*◌, ◌/◌, ◌%◌, cond, List, [], ◌∷◌, length, map, flat_map, Ok, Err, Result, nat_lt, slice_range}
 use Rattle.routes.specs.declared.hop.Hop.{Hop}
 use Rattle.routes.specs.declared.stream.Request.{Request}
 use Rattle.routes.specs.Routes.{hop_on}
@@ -68,11 +68,28 @@ record_at plan start =
       next = hops.next;
     })))))))
 
--- the entry of a record with these hops
-abbrev pub entry_of : Record → List Hop → Entry
-entry_of r hops = record { stream = r.stream; request = r.request; count = r.count; hops = hops; place = r.place; next = r.next }
+-- the numbers that are read, none where one cannot be
+abbrev pub values_in : Result Sequence ByteFault → List ℕ
+values_in (Ok s) = s.values
+values_in (Err e) = []
 
--- A record is read whose hop bytes are that part of the plan itself, or a fault.
+-- the hops of so many numbers from the first byte on
+abbrev pub hops_in : List ℕ → ℕ → List Hop
+hops_in bytes count = map hop_of (values_in (numbers_at bytes 0 count))
+
+-- what a record says whose hops are read from its own hop bytes
+abbrev pub entry_of : Record → Entry
+entry_of r = record {
+  stream = r.stream;
+  request = r.request;
+  count = r.count;
+  hops = hops_in r.hops.now (hops_read r.count);
+  place = r.place;
+  next = r.next;
+}
+
+-- A record is read whose hop bytes are that part of the plan itself, and are all taken by its hops; or a fault.
 abbrev pub ReadsRecord : List ℕ → ℕ → Result Record ByteFault → Type 0
-ReadsRecord plan start (Ok r) = ((hops : List Hop) × (record_at plan start ≡ Ok (entry_of r hops))) × (r.hops.now ≡ slice_range plan r.place r.next)
+ReadsRecord plan start (Ok r) =
+    (record_at plan start ≡ Ok (entry_of r)) × (behind r.hops.now 0 (hops_read r.count) ≡ Ok (length r.hops.now)) × (r.hops.now ≡ slice_range plan r.place r.next)
 ReadsRecord plan start (Err e) = record_at plan start ≡ Err e

@@ -17,8 +17,8 @@ pub struct Record<'a> {
     pub next: usize,
 }
 
-// How many hops of a record are read.
-fn hops_read(count: u16) -> u16
+/// How many hops are read of a record that counts so many: none where the count is above 24.
+pub fn hops_read(count: u16) -> u16
     ensures { result ≡ hops_read count }
 {
     if count > 24 { 0 } else { count }

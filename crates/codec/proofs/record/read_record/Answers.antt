@@ -1,12 +1,11 @@
-use Rattle.std.proofs.Common.{refl, ◌∙◌, ap}
+use Rattle.std.proofs.Common.{refl, ◌∙◌, ap, arith}
 use Rattle.codec.specs.Records.{behind}
 use Rattle.codec.proofs.Entries.{record_read}
 use Rattle.codec.proofs.record.read_record.Goals as goal
 
 pub returns : goal.returns
-returns c = (
-  record_read _ _ c.in_ok-stream.stream c.in_ok-source.source c.in_ok-target.target c.in_ok-demand.demand c.in_ok-count.count
-      c.in_ok-stream.ensures.value c.in_ok-source.ensures.value c.in_ok-target.ensures.value c.in_ok-demand.ensures.value c.in_ok-count.ensures.value
-      _ (c.in_ok-next.ensures.value ∙ ap (behind _ _) c.hops_read.ensures),
-  refl,
-)
+returns c =
+    let read = record_read _ _ c.in_ok-stream.stream c.in_ok-source.source c.in_ok-target.target c.in_ok-demand.demand c.in_ok-count.count
+    c.in_ok-stream.ensures.value c.in_ok-source.ensures.value c.in_ok-target.ensures.value c.in_ok-demand.ensures.value c.in_ok-count.ensures.value
+    (λ k. omega (arith, c.type_inv.plan k)) _ (c.in_ok-next.ensures.value ∙ ap (behind _ _) c.hops_read.ensures) in
+    (read.0, read.1, refl)

@@ -1,0 +1,2 @@
+mod HopTables
+mod Loading

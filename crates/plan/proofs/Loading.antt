@@ -1,0 +1,100 @@
+-- Records opened one by one.
+use Rattle.std.proofs.Common.{◌≡◌, ℕ, zero, suc, ◌+◌, ◌-◌, ◌<◌, ◌≤◌, true, false, nat_lt, List, length, Some, None, Ok, Err, Option, Result, refl, sym, ap, ◌∙◌, subst, arith}
+use Rattle.std.proofs.lemmas.Bool.Decides.{nat_tests}
+use Rattle.refusals.specs.declared.refusal.Refusal.TheVariants.{TrailingBytes}
+use Rattle.layouts.specs.Layout.{Meaning}
+use Rattle.routes.specs.declared.declined.Declined.{Declined}
+use Rattle.routes.specs.declared.hop.Hop.{Hop}
+use Rattle.routes.specs.declared.stream.Request.{Request}
+use Rattle.model.specs.Grid.{Grid, with_stream}
+use Rattle.model.specs.Calls.{opens, Answer, done, declined, unless_declined, open_refusal}
+use Rattle.lanes.specs.Queues.{alike_slots}
+use Rattle.grid.specs.declared.tables.Tables.{Tables}
+use Rattle.grid.specs.Views.{view, slots_alike, outline, setting}
+use Rattle.grid.specs.Makes.{Same, Edits}
+use Rattle.codec.specs.declared.head.HeadNumbers.{HeadNumbers}
+use Rattle.codec.specs.declared.number.ByteFault.{ByteFault}
+use Rattle.codec.specs.Records.{Entry, record_at}
+use Rattle.plan.specs.declared.fault.InRecord.{InRecord}
+use Rattle.plan.specs.declared.fault.LoadFault.{LoadFault}
+use Rattle.plan.specs.declared.fault.LoadFault.TheVariants as fault
+use Rattle.plan.specs.Loads.{Loading, accepted_head, sizes_of, opening_of, records_from, loading_on, ComesTo}
+
+-- what the records that are left come to on the tables so far is what the whole comes to on those at the beginning
+pub record Left (m : Meaning) (start : Tables) (whole : Loading) (plan : List ℕ) (t : Tables) (k place n : ℕ) : Type 0 where
+  pub so : (r : Result ℕ LoadFault) (t' : Tables) → ComesTo m t (records_from (setting m t 0) plan (outline t) k place n) r t' → ComesTo m start whole r t'
+
+pub same : (t : Tables) → Same t t
+same t = record { lanes = refl; streams = refl; capacity = refl }
+
+module _ {T : Type 0} (g : Grid T) (next : Grid T) where
+  not_declined : (o : Option Declined) → done ≡ (unless_declined o g (record { answer = done; grid = next })).answer → o ≡ None
+  not_declined None is = refl
+  not_declined (Some d) is = cc
+
+  declined_by : (o : Option Declined) (d : Declined) → declined d ≡ (unless_declined o g (record { answer = done; grid = next })).answer → o ≡ Some d
+  declined_by None d is = cc
+  declined_by (Some c) d is = cc
+
+-- what an opening says of the grid, whatever the slots
+module _ (m : Meaning) (t t' : Tables) (n : ℕ) (q : Request) (hops : List Hop) where
+  opened : Edits m t (opens n q hops) done t' → open_refusal (setting m t 0) (outline t) n q hops ≡ None
+  unfolding open_refusal
+  opened edits = not_declined (outline t) (with_stream (outline t) n (Some (record { request = q; hops = hops }))) _ edits.made.answer
+
+  refused : (d : Declined) → Edits m t (opens n q hops) (declined d) t' → open_refusal (setting m t 0) (outline t) n q hops ≡ Some d
+  unfolding open_refusal
+  refused d edits = declined_by (outline t) (with_stream (outline t) n (Some (record { request = q; hops = hops }))) _ d edits.made.answer
+
+  outline_is : Edits m t (opens n q hops) done t' → outline t' ≡ with_stream (outline t) n (Some (record { request = q; hops = hops }))
+  unfolding open_refusal
+  outline_is edits =
+      let none : open_refusal (setting m t (length (slots_alike t))) (outline t) n q hops ≡ None = opened edits in
+      ap (λ lanes. view t' (alike_slots lanes.size)) edits.lanes ∙ (edits.made.grid ∙ rw none refl)
+
+  setting_is : (a : Answer (Unit {0})) → Edits m t (opens n q hops) a t' → setting m t' 0 ≡ setting m t 0
+  setting_is a edits = rw (edits.made.size, edits.made.capacity) refl
+
+module _ (m : Meaning) (start : Tables) (whole : Loading) (plan : List ℕ) (t : Tables) (k place : ℕ) where
+  pub cut_short : (n : ℕ) (f : InRecord ByteFault) → Left m start whole plan t k place n → 0 < n → f.number ≡ k → record_at plan place ≡ Err f.fault
+      → ComesTo m start whole (Err (fault.RecordBytes f)) t
+  unfolding records_from
+  cut_short zero f left some number is = absurd (omega arith)
+  cut_short (suc n) f left some number is = left.so _ t (rw (is, sym number) (refl, same t))
+
+  -- the layout's meaning is the same all along
+  module _ (now : Meaning) (stays : now ≡ m) (e : Entry) (t' : Tables) (n : ℕ) (left : Left m start whole plan t k place n) (is : record_at plan place ≡ Ok e) where
+    pub turned_away : (f : InRecord Declined) → 0 < n → f.number ≡ k → Edits now t (opening_of e) (declined f.fault) t' → ComesTo m start whole (Err (fault.Grid f)) t'
+    unfolding records_from
+    turned_away f some number edits =
+        let here = subst (λ x. Edits x t (opening_of e) (declined f.fault) t') stays edits in
+        let n_is : n ≡ suc (n - 1) = omega arith in
+        left.so _ t' (rw (n_is, is, refused m t t' e.stream e.request e.hops f.fault here, sym number) (refl, here.made.declined refl))
+
+    pub let_on : (n' : ℕ) → n ≡ suc n' → Edits now t (opening_of e) done t' → Left m start whole plan t' (k + 1) e.next n'
+    unfolding records_from
+    let_on n' n_is edits = record {
+      so = λ r t'' more.
+          let here = subst (λ x. Edits x t (opening_of e) done t') stays edits in
+          let rest : records_from (setting m t' 0) plan (outline t') (k + 1) e.next n'
+          ≡ records_from (setting m t 0) plan (with_stream (outline t) e.stream (Some (record { request = e.request; hops = e.hops }))) (k + 1) e.next n' =
+          rw (setting_is m t t' e.stream e.request e.hops done here, outline_is m t t' e.stream e.request e.hops here) refl in
+          let comes = subst (λ l. ComesTo m t' l r t'') rest more in
+          left.so r t'' (rw (n_is, is, opened m t t' e.stream e.request e.hops here) (comes.0, (t', here, comes.1)));
+    }
+
+  pub trailing : (n : ℕ) → Left m start whole plan t k place n → n ≡ 0 → place < length plan
+      → ComesTo m start whole (Err (fault.Plan (record { refusal = TrailingBytes; place = place }))) t
+  unfolding records_from
+  trailing n left none more = let test : nat_lt place (length plan) ≡ true = grind (arith, nat_tests) in left.so _ t (rw (none, test) (refl, same t))
+
+  pub finished : (n : ℕ) → Left m start whole plan t k place n → n ≡ 0 → length plan ≤ place → ComesTo m start whole (Ok k) t
+  unfolding records_from
+  finished n left none over = let test : nat_lt place (length plan) ≡ false = grind (arith, nat_tests) in left.so _ t (rw (none, test) (refl, same t))
+
+-- nothing is opened yet
+pub begun : (m : Meaning) (start : Tables) (plan : List ℕ) (h : HeadNumbers) (count : ℕ) → Ok h ≡ accepted_head (sizes_of start) plan
+    → count ≡ h.count.value → Left m start (loading_on m start plan) plan start 0 h.count.next (count - 0)
+begun m start plan h count is same_count =
+    let all : count - 0 ≡ h.count.value = omega arith in
+    record { so = λ r t' comes. rw (sym is) (subst (λ n. ComesTo m start (records_from (setting m start 0) plan (outline start) 0 h.count.next n) r t') all comes) }

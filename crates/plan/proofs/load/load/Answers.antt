@@ -1,0 +1,32 @@
+use Rattle.std.proofs.Common.{◌≡◌, ◌-◌, ◌+◌, refl, ap, ◌∙◌, arith}
+use Rattle.std.proofs.lemmas.Result.{err_from_is_err_and}
+use Rattle.plan.specs.Loads.{accepted_head}
+use Rattle.plan.proofs.Loading.{begun, cut_short, turned_away, let_on, trailing, finished}
+use Rattle.plan.proofs.load.load.Goals as goal
+
+pub loop-number-init : goal.loop-number-init
+loop-number-init g c = (refl, begun _ _ _ _ _ (c.in_ok-head.ensures ∙ ap (λ sizes. accepted_head sizes c.args.plan.now) c.sizes_of.ensures) c.from-count.ensures)
+
+pub returns-in_err-told-clause-made : goal.returns-in_err-told-clause-made
+returns-in_err-told-clause-made g c =
+    let exit = err_from_is_err_and c.from_residual-in_err-told.result c.from_residual-in_err-told.ensures.1 in
+    rw (exit.1, exit.2) (cut_short _ _ _ _ _ _ _ _ _ c.loop-number.invariant.1 (omega arith) c.in_err-told.ensures.0 c.in_err-told.ensures.1)
+
+pub returns-in_err-open-clause-made : goal.returns-in_err-open-clause-made
+returns-in_err-open-clause-made g c =
+    let exit = err_from_is_err_and c.from_residual-in_err-open.result c.from_residual-in_err-open.ensures.1 in
+    rw (exit.1, exit.2) (turned_away _ _ _ _ _ _ _ _ (ap g.L.Layout.meaning c.loop-number.invariant.0) _ _ _ c.loop-number.invariant.1 c.in_ok-told.ensures.0 _ (omega arith) c.in_err-open.ensures.made.0 c.in_err-open.ensures.made.1)
+
+pub loop-number-preserved : goal.loop-number-preserved
+loop-number-preserved g c = (
+  c.open.ensures.layout ∙ c.loop-number.invariant.0,
+  let_on _ _ _ _ _ _ _ _ (ap g.L.Layout.meaning c.loop-number.invariant.0) _ _ _ c.loop-number.invariant.1 c.in_ok-told.ensures.0 (c.from-count.result - (c.loop-number.number + 1)) (omega arith) c.in_ok-open.ensures.made,
+)
+
+pub returns-then-place-plan-clause-made : goal.returns-then-place-plan-clause-made
+returns-then-place-plan-clause-made g c = rw c.into.ensures (trailing _ _ _ _ _ _ _ _ c.loop-number.invariant.1 (omega arith) c.if-place-plan.true)
+
+pub returns-clause-made : goal.returns-clause-made
+returns-clause-made g c =
+    let last : c.from-count.result ≡ c.loop-number.number = omega arith in
+    rw last (finished _ _ _ _ _ _ _ _ c.loop-number.invariant.1 (omega arith) c.if-place-plan.false)

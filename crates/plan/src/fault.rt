@@ -1,0 +1,67 @@
+// Why a plan is not loaded.
+ghost use Rattle.std.specs.Prelude.{◌≡◌};
+ghost use Rattle.plan.specs.declared.fault.LoadFault.TheVariants.{HeadBytes, RecordBytes, Plan, Grid};
+
+use codec::number::ByteFault;
+use refusals::refusal::Refusal;
+use routes::declined::Declined;
+
+/// A fault met in a record of a plan, with the record's number, counted from 0.
+#[derive(Clone, Copy, PartialEq, Eq, Debug)]
+pub struct InRecord<F> {
+    pub number: usize,
+    pub fault: F,
+}
+
+/// Why a plan is refused as a whole, and the byte at which the number of its head starts that is to blame, or what stands behind its last
+/// record.
+#[derive(Clone, Copy, PartialEq, Eq, Debug)]
+pub struct PlanFault {
+    pub refusal: Refusal,
+    pub place: usize,
+}
+
+/// Why a plan is not loaded. The fault of the layer below is carried whole.
+#[derive(Clone, Copy, PartialEq, Eq, Debug)]
+pub enum LoadFault {
+    /// A number of the head cannot be read.
+    HeadBytes(ByteFault),
+    /// A number of a record cannot be read.
+    RecordBytes(InRecord<ByteFault>),
+    /// The head is refused, or bytes stand behind the last record.
+    Plan(PlanFault),
+    /// The grid declines the stream of a record.
+    Grid(InRecord<Declined>),
+}
+
+impl From<ByteFault> for LoadFault {
+    ghost from_gives = { λ fault f. f ≡ HeadBytes fault };
+
+    fn from(fault: ByteFault) -> LoadFault {
+        LoadFault::HeadBytes(fault)
+    }
+}
+
+impl From<InRecord<ByteFault>> for LoadFault {
+    ghost from_gives = { λ fault f. f ≡ RecordBytes fault };
+
+    fn from(fault: InRecord<ByteFault>) -> LoadFault {
+        LoadFault::RecordBytes(fault)
+    }
+}
+
+impl From<PlanFault> for LoadFault {
+    ghost from_gives = { λ fault f. f ≡ Plan fault };
+
+    fn from(fault: PlanFault) -> LoadFault {
+        LoadFault::Plan(fault)
+    }
+}
+
+impl From<InRecord<Declined>> for LoadFault {
+    ghost from_gives = { λ fault f. f ≡ Grid fault };
+
+    fn from(fault: InRecord<Declined>) -> LoadFault {
+        LoadFault::Grid(fault)
+    }
+}

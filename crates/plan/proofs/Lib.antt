@@ -1,2 +1,5 @@
 mod HopTables
 mod Loading
+pub mod Listing
+mod Putting
+pub mod Lengths

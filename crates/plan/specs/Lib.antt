@@ -1,1 +1,4 @@
 pub mod Loads
+pub mod Plans
+pub mod Buffers
+pub mod Writes

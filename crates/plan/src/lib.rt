@@ -1,6 +1,9 @@
 // Plans: loading them on a grid, writing them, and the line that tells a verdict.
 #![tactic(auto)]
 
+mod buffer;
 pub mod fault;
+mod listed;
 pub mod load;
 mod put;
+pub mod write;

@@ -1,0 +1,29 @@
+-- Numbers written one behind another.
+use Rattle.std.proofs.Common.{◌≡◌, ℕ, suc, ◌+◌, ◌<◌, ◌≤◌, List, [], ◌∷◌, ◌++◌, length, map, drop, get_or, flat_map, refl, sym, ap, ◌∙◌, arith, append_assoc, append-nil, length-append, add-one, drop-cons, length-drop}
+use Rattle.std.proofs.lemmas.List.{nil_from_length}
+use Rattle.codec.specs.Numbers.{number_bytes}
+use Rattle.codec.specs.Records.{numbers_bytes}
+
+-- The numbers of things from number k on are still to be written; with those that are, they make what is wanted.
+pub record ToWrite {X : Type 0} (number : X → ℕ) (xs : List X) (k : ℕ) (written wanted : List ℕ) : Type 0 where
+  pub whole : written ++ numbers_bytes (map number (drop k xs)) ≡ wanted
+
+module _ {X : Type 0} (number : X → ℕ) (xs : List X) (k : ℕ) (written wanted : List ℕ) (left : ToWrite number xs k written wanted) where
+  next_number : (d : X) → k < length xs → written ++ (number_bytes (number (get_or xs k d)) ++ numbers_bytes (map number (drop (suc k) xs))) ≡ wanted
+  next_number d more = ap (λ rest. written ++ numbers_bytes (map number rest)) (sym (drop-cons xs k d more)) ∙ left.whole
+
+  pub room : (d : X) → k < length xs → length written + length (number_bytes (number (get_or xs k d))) ≤ length wanted
+  room d more =
+      let whole = ap length (next_number d more) in
+      omega (
+        arith,
+        whole,
+        length-append written (number_bytes (number (get_or xs k d)) ++ numbers_bytes (map number (drop (suc k) xs))),
+        length-append (number_bytes (number (get_or xs k d))) (numbers_bytes (map number (drop (suc k) xs))),
+      )
+
+  pub one_written : (d : X) → k < length xs → ToWrite number xs (k + 1) (written ++ number_bytes (number (get_or xs k d))) wanted
+  one_written d more = record { whole = rw add-one (append_assoc written (number_bytes (number (get_or xs k d))) _ ∙ next_number d more) }
+
+  pub all_written : length xs ≤ k → written ≡ wanted
+  all_written over = let none : drop k xs ≡ [] = nil_from_length _ (omega (arith, length-drop k xs)) in sym (append-nil written) ∙ (ap (λ rest. written ++ numbers_bytes (map number rest)) (sym none) ∙ left.whole)

@@ -1,0 +1,49 @@
+// Writing the plan of a grid's open streams.
+ghost use Rattle.std.specs.Prelude.{◌≡◌, ◌≤◌, ◌<◌, length, IfOk};
+ghost use Rattle.routes.specs.Routes.{streams_of};
+ghost use Rattle.layouts.specs.Layout.{Meaning, Lawful};
+ghost use Rattle.grid.specs.Sound.{Sound};
+ghost use Rattle.grid.specs.Views.{streams_in};
+ghost use Rattle.plan.specs.Buffers.{Puts};
+ghost use Rattle.plan.specs.Plans.{plan_bytes};
+ghost use Rattle.plan.specs.Writes.{written};
+
+use crate::buffer::put;
+use crate::listed::open_count;
+use crate::load::sizes_of;
+use crate::put::{PlanBytes, put_head, put_record};
+use codec::head::{Head, judge_head};
+use grid::grid::Grid;
+use layouts::layout::Layout;
+use refusals::refusal::Refusal;
+
+// The plan of the open streams under a head.
+fn plan_of<L: Layout>(grid: &Grid<L>, head: &Head) -> PlanBytes
+    ensures { result.items ≡ plan_bytes head.now (streams_in grid.now.tables) }
+{
+    let streams = grid.streams();
+    let mut plan = PlanBytes::new();
+    put_head(&mut plan, head, open_count(streams));
+    for number in 0..64 {
+        let Some(stream) = &streams[usize::from(number)] else {
+            continue;
+        };
+        put_record(&mut plan, number, stream);
+    }
+    plan
+}
+
+/// Writes the plan of the open streams, in rising number, at the front of a buffer, and tells the count of its bytes. The head says under which
+/// layout and for which grid; what stands in the buffer behind the plan is not touched.
+///
+/// Refuses the head as `judge_head` does, and then a buffer that is too short by `BufferTooShort`. A refusal writes nothing.
+pub fn write<L: Layout>(grid: &Grid<L>, head: &Head, buffer: &mut [u8]) -> Result<usize, Refusal>
+    ensures made { Puts (written head.now grid.now.tables (length buffer.old)) buffer.old result buffer.new }
+    ensures short { IfOk result (λ count. count ≤ 3530) }
+{
+    let count = open_count(grid.streams());
+    if let Err(fault) = judge_head(head, count, sizes_of(grid)) {
+        return Err(fault.refusal);
+    }
+    put(buffer, plan_of(grid, head).as_slice())
+}

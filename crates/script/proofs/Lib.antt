@@ -4,3 +4,4 @@ pub mod Decimals
 pub mod Names
 pub mod LineMistakes
 pub mod Dots
+pub mod Pushes

@@ -3,6 +3,7 @@ use Rattle.std.proofs.Common.{ℕ, Bool, true, false, cond, List, [], ◌∷◌,
 use Rattle.script.specs.declared.mistake.Mistake.TheVariants.{UnknownCommand}
 use Rattle.script.specs.Reads.{Read, OfTheLine, then}
 use Rattle.script.specs.Hops.{hops_in}
+use Rattle.script.specs.Hex.{pair_of, bytes_of, bytes_in}
 use Rattle.script.specs.Parts.{first_shape, first_number, first_measure, first_request, nothing_more, only_number, only_hop, only_strip, request_and_hops}
 use Rattle.script.specs.Commands.{Instruction, question_named, call_named, named_instruction, command_of}
 
@@ -45,6 +46,18 @@ hops_mistakes (w ∷ ws) = grind (arith, hops_mistakes ws)
 request_mistakes : (ws : List (List ℕ)) → OfTheLine (request_and_hops ws)
 request_mistakes ws = search (then_mistakes, fields_mistakes, hops_mistakes)
 
+pair_mistakes : (high low : ℕ) → OfTheLine (pair_of high low)
+pair_mistakes high low = grind arith
+
+word_mistakes : (w : List ℕ) → OfTheLine (bytes_of w)
+word_mistakes [] = tt
+word_mistakes (digit ∷ []) = grind arith
+word_mistakes (high ∷ low ∷ w) = grind (arith, pair_mistakes high low, word_mistakes w)
+
+bytes_mistakes : (ws : List (List ℕ)) → OfTheLine (bytes_in ws)
+bytes_mistakes [] = tt
+bytes_mistakes (w ∷ ws) = grind (arith, word_mistakes w, bytes_mistakes ws)
+
 no_command : OfTheLine {A = Instruction} (Err UnknownCommand)
 no_command = grind arith
 
@@ -60,6 +73,7 @@ ruleset parts = (
   hop_mistakes,
   strip_mistakes,
   request_mistakes,
+  bytes_mistakes,
   no_command,
 )
 

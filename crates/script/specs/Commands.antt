@@ -6,11 +6,12 @@ use Rattle.routes.specs.declared.hop.Hop.{Hop}
 use Rattle.routes.specs.declared.stream.Request.{Request}
 use Rattle.lanes.specs.declared.strip.Strip.{Strip}
 use Rattle.script.specs.declared.command.Command.{Command}
-use Rattle.script.specs.declared.command.Command.TheVariants.{Mesh, Link, Turn, Judge, Grid, Open, Seek, Close, Send, Step, Stream, Route, LinkLoad, Count, Items, Drain}
+use Rattle.script.specs.declared.command.Command.TheVariants.{Mesh, Link, Turn, Judge, Grid, Open, Seek, Close, Send, Step, Stream, Route, LinkLoad, Count, Items, Drain, Load, Write}
 use Rattle.script.specs.declared.command.MeasureName.{MeasureName}
 use Rattle.script.specs.declared.mistake.Mistake.TheVariants.{UnknownCommand}
 use Rattle.script.specs.Reads.{Read, then}
 use Rattle.script.specs.Parts.{first_measure, first_number, first_shape, first_request, behind, past, nothing_more, only_number, only_hop, only_strip, request_and_hops}
+use Rattle.script.specs.Hex.{bytes_in}
 
 -- What a command says, with plain lists.
 pub data Instruction : Type 0 where
@@ -30,6 +31,8 @@ pub data Instruction : Type 0 where
   count : Hop → Instruction
   items : Instruction
   drains : Instruction
+  loads : List ℕ → Instruction
+  writes : Instruction
 
 abbrev pub instruction_of : Command → Instruction
 instruction_of (Mesh rule w h) = mesh rule w h
@@ -48,6 +51,8 @@ instruction_of (LinkLoad k) = link_load k
 instruction_of (Count hop) = count hop
 instruction_of Items = items
 instruction_of Drain = drains
+instruction_of (Load bytes) = loads (vec_items bytes)
+instruction_of Write = writes
 
 -- mesh RULE WIDTH HEIGHT, without its name
 abbrev pub mesh_instruction : List (List ℕ) → Read Instruction
@@ -85,6 +90,10 @@ seek_instruction ws =
 abbrev pub send_instruction : List (List ℕ) → Read Instruction
 send_instruction ws = then (first_number ws) (λ s. then (only_strip (behind ws)) (λ strip. Ok (sends s strip)))
 
+-- load HEX..
+abbrev pub load_instruction : List (List ℕ) → Read Instruction
+load_instruction ws = then (bytes_in ws) (λ bytes. Ok (loads bytes))
+
 -- the commands that name a number, as link K
 abbrev pub number_instruction : (ℕ → Instruction) → List (List ℕ) → Read Instruction
 number_instruction f ws = then (only_number ws) (λ n. Ok (f n))
@@ -105,7 +114,8 @@ question_named name ws =
     (cond (bytes_eq name (codes "linkload")) (number_instruction link_load ws)
     (cond (bytes_eq name (codes "count")) (hop_instruction count ws)
     (cond (bytes_eq name (codes "items")) (bare_instruction items ws)
-    (Err UnknownCommand)))))
+    (cond (bytes_eq name (codes "write")) (bare_instruction writes ws)
+    (Err UnknownCommand))))))
 
 -- those that change one, and those that ask about it
 abbrev pub call_named : List ℕ → List (List ℕ) → Read Instruction
@@ -116,7 +126,8 @@ call_named name ws =
     (cond (bytes_eq name (codes "send")) (send_instruction ws)
     (cond (bytes_eq name (codes "step")) (hop_instruction steps ws)
     (cond (bytes_eq name (codes "drain")) (bare_instruction drains ws)
-    (question_named name ws))))))
+    (cond (bytes_eq name (codes "load")) (load_instruction ws)
+    (question_named name ws)))))))
 
 -- all commands: these, and those that make a mesh or a grid or ask about a mesh
 abbrev pub named_instruction : List ℕ → List (List ℕ) → Read Instruction
@@ -136,4 +147,5 @@ command_of (name ∷ ws) = then (named_instruction name ws) (λ i. Ok (Some i))
 -- memory is needed by the commands that keep a list
 abbrev pub NeedsMemory : List (List ℕ) → Type 0
 NeedsMemory [] = ⊥
-NeedsMemory (name ∷ ws) = (bytes_eq name (codes "judge") ≡ true) ⊎ (bytes_eq name (codes "open") ≡ true)
+NeedsMemory (name ∷ ws) =
+    (bytes_eq name (codes "judge") ≡ true) ⊎ ((bytes_eq name (codes "open") ≡ true) ⊎ (bytes_eq name (codes "load") ≡ true))

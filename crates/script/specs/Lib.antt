@@ -4,5 +4,6 @@ pub mod Mistakes
 pub mod Numbers
 pub mod Reads
 pub mod Hops
+pub mod Hex
 pub mod Parts
 pub mod Commands

@@ -55,4 +55,8 @@ pub enum Command {
     Items,
     /// Step lanes in turn until none will step.
     Drain,
+    /// Load the plan of these bytes.
+    Load(Vec<u8>),
+    /// Tell the plan of the open streams.
+    Write,
 }

@@ -3,6 +3,7 @@
 
 mod bytes;
 pub mod command;
+mod hex;
 mod hop;
 pub mod mistake;
 mod number;

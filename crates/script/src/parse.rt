@@ -3,7 +3,7 @@ ghost use Rattle.std.specs.Prelude.{◌≡◌, ◌∷◌};
 ghost use Rattle.std.specs.Option.{option_map};
 ghost use Rattle.script.specs.Words.{words_of};
 ghost use Rattle.script.specs.Reads.{said, Parses, OfTheLine};
-ghost use Rattle.script.specs.Commands.{instruction_of, mesh_instruction, turn_instruction, grid_instruction, judge_instruction, open_instruction, seek_instruction, send_instruction, question_named, call_named, named_instruction, command_of, NeedsMemory};
+ghost use Rattle.script.specs.Commands.{instruction_of, mesh_instruction, turn_instruction, grid_instruction, judge_instruction, open_instruction, seek_instruction, send_instruction, load_instruction, question_named, call_named, named_instruction, command_of, NeedsMemory};
 
 use crate::command::Command;
 use crate::mistake::Mistake;
@@ -84,6 +84,13 @@ impl<'a> Words<'a> {
         let stream = self.number()?;
         Ok(Command::Send(stream, self.only_strip()?))
     }
+
+    // The words behind `load`: the bytes of a plan.
+    fn load(&mut self, heap: Global) -> Result<Command, Mistake>
+        ensures { Parses instruction_of (Unit {0}) (load_instruction self.old) result }
+    {
+        Ok(Command::Load(self.bytes(heap)?))
+    }
 }
 
 // The names are matched in three groups, since the proof of one match over all of them does not close. Matches and not
@@ -99,6 +106,7 @@ fn question(name: &[u8], words: &mut Words<'_>) -> Result<Command, Mistake>
         b"linkload" => words.only_number().map(Command::LinkLoad),
         b"count" => words.only_hop().map(Command::Count),
         b"items" => words.end().map(|()| Command::Items),
+        b"write" => words.end().map(|()| Command::Write),
         _ => Err(Mistake::UnknownCommand),
     }
 }
@@ -114,6 +122,7 @@ fn call(heap: Global, name: &[u8], words: &mut Words<'_>) -> Result<Command, Mis
         b"send" => words.send(),
         b"step" => words.only_hop().map(Command::Step),
         b"drain" => words.end().map(|()| Command::Drain),
+        b"load" => words.load(heap),
         _ => question(name, words),
     }
 }
@@ -132,8 +141,8 @@ fn named(heap: Global, name: &[u8], words: &mut Words<'_>) -> Result<Command, Mi
     }
 }
 
-/// The command of a line, none where the line has no word, or the first mistake in it. Hops are kept on the heap, which
-/// may have no room for them.
+/// The command of a line, none where the line has no word, or the first mistake in it. Hops and bytes are kept on the heap,
+/// which may have no room for them.
 #[tactic(auto, using(crate::proofs::LineMistakes::line_mistakes))]
 pub fn parse(heap: Global, line: &[u8]) -> Result<Option<Command>, Mistake>
     ensures value { Parses (option_map instruction_of) (NeedsMemory (words_of line.now)) (command_of (words_of line.now)) result }

@@ -1,10 +1,12 @@
 // The parts of a command, read word by word.
 ghost use Rattle.std.specs.Prelude.{◌≡◌, vec_items, OnOk};
 ghost use Rattle.script.specs.Hops.{hops_in};
+ghost use Rattle.script.specs.Hex.{bytes_in};
 ghost use Rattle.script.specs.Parts.{rule_of, measure_of, first, first_measure, first_number, first_shape, first_request, first_small_number, nothing_more, behind, past, only_number, only_hop, only_strip, request_and_hops};
 ghost use Rattle.script.specs.Reads.{said, Parses};
 
 use crate::command::MeasureName;
+use crate::hex::push_bytes;
 use crate::hop::hop;
 use crate::mistake::Mistake;
 use crate::number::{decimal, number, small_number};
@@ -152,6 +154,17 @@ impl<'a> Words<'a> {
             hops.push(hop(word)?)?;
         }
         Ok(hops)
+    }
+
+    /// The words that are left as bytes, two digits in base sixteen for each.
+    pub(crate) fn bytes(&mut self, heap: Global) -> Result<Vec<u8>, Mistake>
+        ensures { Parses vec_items (Unit {0}) (bytes_in self.old) result }
+    {
+        let mut bytes = Vec::new(heap);
+        for word in self.by_ref() {
+            push_bytes(&mut bytes, word)?;
+        }
+        Ok(bytes)
     }
 
     /// The words that are left as what a stream asks for, with the hops of a route.

@@ -107,6 +107,35 @@ fn grid_commands(rt: HostRuntime) -> Result<(), Fail> {
 }
 
 #[test]
+fn plan_commands(rt: HostRuntime) -> Result<(), Fail> {
+    let heap = rt.alloc();
+    let lines: [(&[u8], Command); 9] = [
+        (b"load", Command::Load(Vec::new(heap))),
+        (b"load # 01", Command::Load(Vec::new(heap))),
+        (b"load 010203", Command::Load(vec![in heap; 1, 2, 3]?)),
+        (b"load 0102 03", Command::Load(vec![in heap; 1, 2, 3]?)),
+        (
+            b"load\t01 02 03#04\r",
+            Command::Load(vec![in heap; 1, 2, 3]?),
+        ),
+        (
+            b"load 09af 90fa",
+            Command::Load(vec![in heap; 9, 175, 144, 250]?),
+        ),
+        (
+            b"load AFfA fF00",
+            Command::Load(vec![in heap; 175, 250, 255, 0]?),
+        ),
+        (b"write", Command::Write),
+        (b" write # all of it", Command::Write),
+    ];
+    for (line, command) in lines {
+        assert_eq!(rt; parse(heap, line), Ok(Some(command)));
+    }
+    Ok(())
+}
+
+#[test]
 fn mistakes(rt: HostRuntime) {
     let lines: [(&[u8], Mistake); 18] = [
         (b"walk", Mistake::UnknownCommand),
@@ -166,6 +195,33 @@ fn grid_mistakes(rt: HostRuntime) {
         (b"items 1", Mistake::ExtraWord),
         (b"drain 1", Mistake::ExtraWord),
         (b"drained", Mistake::UnknownCommand),
+    ];
+    for (line, mistake) in lines {
+        assert_eq!(rt; parse(rt.alloc(), line), Err(mistake));
+    }
+}
+
+#[test]
+fn plan_mistakes(rt: HostRuntime) {
+    let lines: [(&[u8], Mistake); 18] = [
+        (b"load 0", Mistake::NotBytes),
+        (b"load 010", Mistake::NotBytes),
+        (b"load 01 0 2", Mistake::NotBytes),
+        (b"load 0 102", Mistake::NotBytes),
+        (b"load 0g", Mistake::NotBytes),
+        (b"load g0", Mistake::NotBytes),
+        (b"load 0G", Mistake::NotBytes),
+        (b"load 0/", Mistake::NotBytes),
+        (b"load 0:", Mistake::NotBytes),
+        (b"load @0", Mistake::NotBytes),
+        (b"load `0", Mistake::NotBytes),
+        (b"load 0x01", Mistake::NotBytes),
+        (b"load 01,02", Mistake::NotBytes),
+        (b"load -1", Mistake::NotBytes),
+        (b"load 01 \xff\xff", Mistake::NotBytes),
+        (b"Load 01", Mistake::UnknownCommand),
+        (b"write 01", Mistake::ExtraWord),
+        (b"writes", Mistake::UnknownCommand),
     ];
     for (line, mistake) in lines {
         assert_eq!(rt; parse(rt.alloc(), line), Err(mistake));

@@ -21,6 +21,7 @@ returns-in_default c =
       not (codes "send") (λ same. grind arith),
       not (codes "step") (λ same. grind arith),
       not (codes "drain") (λ same. grind arith),
+      not (codes "load") (λ same. grind arith),
     )
     refl
     in

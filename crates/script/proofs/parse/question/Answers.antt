@@ -27,5 +27,6 @@ returns-in_default c =
       not (codes "linkload") (λ same. grind arith),
       not (codes "count") (λ same. grind arith),
       not (codes "items") (λ same. grind arith),
+      not (codes "write") (λ same. grind arith),
     )
     refl

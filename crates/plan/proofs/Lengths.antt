@@ -1,5 +1,5 @@
 -- How long a plan can be.
-use Rattle.std.proofs.Common.{◌≡◌, ℕ, zero, suc, ◌+◌, ◌*◌, ◌/◌, ◌%◌, ◌<◌, ◌≤◌, ◌==◌, Bool, true, false, not, ◌&&◌, nat_le, nat_lt, cond, find, List, [], ◌∷◌, ◌++◌, length, map, flat_map, Some, None, Ok, Err, Option, Result, refl, sym, ap, ◌∙◌, subst, arith, length-append}
+use Rattle.std.proofs.Common.{◌≡◌, ℕ, zero, suc, ◌+◌, ◌*◌, ◌<◌, ◌≤◌, Bool, true, false, not, cond, find, List, [], ◌∷◌, ◌++◌, length, map, Some, None, Ok, Option, Result, refl, ap, arith, length-append}
 use Rattle.std.proofs.lemmas.Bool.Decides.{nat_tests}
 use Rattle.std.proofs.lemmas.Grind.{flat_map-append}
 use Rattle.layouts.specs.Layout.{Meaning, Lawful}
@@ -11,7 +11,6 @@ use Rattle.codec.specs.declared.head.GridSizes.{GridSizes}
 use Rattle.codec.specs.declared.head.Head.{Head}
 use Rattle.codec.specs.declared.head.HeadFault.{HeadFault}
 use Rattle.codec.specs.declared.head.HeadPart.{HeadPart}
-use Rattle.codec.specs.declared.head.HeadPart.TheVariants.{Version, Rule, Width, Height, Lanes, Depth, Capacity, Count}
 use Rattle.codec.specs.Heads.{parts, allowed, number_of, fits, misfit, refused, judged}
 use Rattle.codec.specs.Numbers.{number_bytes}
 use Rattle.codec.specs.Records.{hop_number, numbers_bytes}
@@ -28,3 +27,146 @@ one_byte n small = grind (arith, nat_tests)
 pub two_bytes : (n : ℕ) → n < 16384 → length (number_bytes n) ≤ 2
 unfolding number_bytes
 two_bytes n small = grind (arith, nat_tests)
+
+-- The numbers of an open stream are small: each of those that name a tile or the stream takes a byte, each hop at most two.
+pub record SmallStream (n : ℕ) (s : OpenStream) : Type 0 where
+  pub number : n < 64
+  pub source : s.request.source < 64
+  pub target : s.request.target < 64
+  pub count : length s.hops ≤ 24
+  pub hops : (k : ℕ) → k < length s.hops → hop_number (hop_at s.hops k) < 1024
+
+hops_short : (hops : List Hop) → ((k : ℕ) → k < length hops → hop_number (hop_at hops k) < 1024) → length (numbers_bytes (map hop_number hops)) ≤ 2 * length hops
+hops_short [] small = omega arith
+hops_short (h ∷ hops) small =
+    let first : hop_number h < 1024 = small 0 (omega arith) in
+    let more = hops_short hops (λ k less. small (suc k) (omega arith)) in
+    omega (arith, more, two_bytes (hop_number h) (omega arith), length-append (number_bytes (hop_number h)) (numbers_bytes (map hop_number hops)))
+
+pub record_short : (n : ℕ) (s : OpenStream) → SmallStream n s → length (numbers_bytes (record_numbers (n, s))) ≤ 55
+unfolding record_numbers
+record_short n s small =
+    let hops = hops_short s.hops small.hops in
+    simp length-append
+    (omega (
+      arith,
+      hops,
+      small.count,
+      one_byte n (omega (arith, small.number)),
+      one_byte s.request.source (omega (arith, small.source)),
+      one_byte s.request.target (omega (arith, small.target)),
+      at_most_three s.request.demand,
+      one_byte (length s.hops) (omega (arith, small.count)),
+    ))
+
+module _ (streams : ℕ → Option OpenStream) (small : (n : ℕ) (s : OpenStream) → n < stream_count → streams n ≡ Some s → SmallStream n s) where
+  entry_short : (n : ℕ) (rest : List (ℕ × OpenStream)) (entry : Option OpenStream) → n < stream_count → streams n ≡ entry
+      → length (numbers_bytes (records_numbers (numbered n entry ++ rest))) ≤ 55 + length (numbers_bytes (records_numbers rest))
+  entry_short n rest None there is = omega arith
+  entry_short n rest (Some s) there is =
+      let short = record_short n s (small n s there is) in
+      let split = flat_map-append number_bytes (record_numbers (n, s)) (records_numbers rest) in
+      omega (arith, short, ap length split, length-append (numbers_bytes (record_numbers (n, s))) (numbers_bytes (records_numbers rest)))
+
+  listed_short : (n k : ℕ) → n + k ≤ stream_count → length (numbers_bytes (records_numbers (listed streams n k))) ≤ 55 * k
+  listed_short n zero there = omega arith
+  listed_short n (suc k) there = omega (arith, entry_short n (listed streams (n + 1) k) (streams n) (omega arith) refl, listed_short (n + 1) k (omega arith))
+
+  pub records_short : length (numbers_bytes (records_numbers (open_streams streams))) ≤ 3520
+  unfolding open_streams
+  records_short = listed_short 0 stream_count (omega arith)
+
+-- the streams of a grid have small numbers
+pub small_stream : (m : Meaning) → Lawful m → (lanes capacity : ℕ) → lanes ≤ 4 → (streams : ℕ → Option OpenStream) → Sound m lanes capacity streams
+    → (n : ℕ) (s : OpenStream) → n < stream_count → streams n ≡ Some s → SmallStream n s
+small_stream m law lanes capacity few streams sound n s there is =
+    let route = sound.routes n s is in
+    record {
+      number = there;
+      source = omega (arith, route.source, law.sized.most_tiles);
+      target = omega (arith, route.target, law.sized.most_tiles);
+      count = route.count.1;
+      hops = λ k less. let on = route.on_grid k less in omega (arith, on.0, on.1, law.sized.most_links);
+    }
+
+-- no stream asks for more than a link can bear
+pub demand_borne : (m : Meaning) (lanes capacity : ℕ) (streams : ℕ → Option OpenStream) → Sound m lanes capacity streams → (n : ℕ) (s : OpenStream) → streams n ≡ Some s
+    → s.request.demand ≤ capacity
+demand_borne m lanes capacity streams sound n s is =
+    let route = sound.routes n s is in
+    omega (arith, route.bears 0 (omega (arith, route.count.0)))
+
+-- each of these passes a test
+abbrev Each : (HeadPart → Bool) → List HeadPart → Type 0
+Each test [] = Unit {0}
+Each test (x ∷ xs) = (test x ≡ true) × Each test xs
+
+none_fails : (test : HeadPart → Bool) (xs : List HeadPart) → find (λ x. not (test x)) xs ≡ None → Each test xs
+none_fails test [] none = tt
+none_fails test (x ∷ xs) none =
+    elim (test x) as (λ b. test x ≡ b → cond (not b) (Some x) (find (λ y. not (test y)) xs) ≡ None → Each test (x ∷ xs))
+    [ true ↦ λ pass rest. (pass, none_fails test xs rest) | false ↦ λ fail rest. cc ] refl none
+
+not_refused : (found : Option HeadPart) (fitting : Result (Unit {0}) HeadFault) → refused found fitting ≡ Ok tt → (found ≡ None) × (fitting ≡ Ok tt)
+not_refused None fitting is = (refl, is)
+not_refused (Some part) fitting is = cc
+
+not_misfit : (found : Option HeadPart) → misfit found ≡ Ok tt → found ≡ None
+not_misfit None is = refl
+not_misfit (Some part) is = cc
+
+-- The numbers of an accepted head are small too, and those that have to fit are the grid's.
+pub record SmallHead (h : Head) (count : ℕ) (grid : GridSizes) : Type 0 where
+  pub version : h.version < 128
+  pub rule : h.rule < 128
+  pub width : h.width < 128
+  pub height : h.height < 128
+  pub lanes : h.lanes < 128
+  pub depth : h.depth < 128
+  pub capacity : h.capacity ≡ grid.capacity
+  pub streams : count ≤ 64
+
+pub small_head : (h : Head) (count : ℕ) (grid : GridSizes) → judged h count grid ≡ Ok tt → SmallHead h count grid
+unfolding parts
+small_head h count grid is =
+    let both = not_refused (find (λ part. not (allowed part (number_of h count part))) parts) (misfit (find (λ part. not (fits h grid part)) parts)) is in
+    let pass = none_fails (λ part. allowed part (number_of h count part)) parts both.0 in
+    let fit = none_fails (fits h grid) parts (not_misfit _ both.1) in
+    record {
+      version = grind (arith, nat_tests, pass.0);
+      rule = grind (arith, nat_tests, pass.1.0);
+      width = grind (arith, nat_tests, pass.1.1.0);
+      height = grind (arith, nat_tests, pass.1.1.1.0);
+      lanes = grind (arith, nat_tests, pass.1.1.1.1.0);
+      depth = grind (arith, nat_tests, pass.1.1.1.1.1.0);
+      capacity = grind (arith, nat_tests, fit.1.1.1.1.1.1.0);
+      streams = grind (arith, nat_tests, pass.1.1.1.1.1.1.1.0);
+    }
+
+pub head_short : (h : Head) (count : ℕ) (grid : GridSizes) → SmallHead h count grid → length (numbers_bytes (head_numbers h count)) ≤ 10
+unfolding head_numbers
+head_short h count grid small =
+    simp length-append
+    (omega (
+      arith,
+      one_byte h.version small.version,
+      one_byte h.rule small.rule,
+      one_byte h.width small.width,
+      one_byte h.height small.height,
+      one_byte h.lanes small.lanes,
+      one_byte h.depth small.depth,
+      at_most_three h.capacity,
+      one_byte count (omega (arith, small.streams)),
+    ))
+
+pub plan_short : (h : Head) (streams : ℕ → Option OpenStream) (grid : GridSizes) → SmallHead h (length (open_streams streams)) grid
+    → ((n : ℕ) (s : OpenStream) → n < stream_count → streams n ≡ Some s → SmallStream n s) → length (plan_bytes h streams) ≤ 3530
+plan_short h streams grid head small =
+    let split = flat_map-append number_bytes (head_numbers h (length (open_streams streams))) (records_numbers (open_streams streams)) in
+    omega (
+      arith,
+      head_short h (length (open_streams streams)) grid head,
+      records_short streams small,
+      ap length split,
+      length-append (numbers_bytes (head_numbers h (length (open_streams streams)))) (numbers_bytes (records_numbers (open_streams streams))),
+    )

@@ -3,3 +3,4 @@ mod Loading
 pub mod Listing
 mod Putting
 pub mod Lengths
+mod Writing

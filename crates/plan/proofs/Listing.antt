@@ -1,11 +1,11 @@
 -- The open streams, number by number.
-use Rattle.std.proofs.Common.{◌≡◌, ℕ, zero, suc, ◌+◌, ◌<◌, ◌≤◌, List, [], ◌∷◌, ◌++◌, length, Some, None, Option, refl, sym, ap, ◌∙◌, arith, length-append, ◌-◌, append_assoc, append-nil, get_or}
+use Rattle.std.proofs.Common.{◌≡◌, ℕ, suc, ◌+◌, ◌<◌, ◌≤◌, List, [], ◌∷◌, ◌++◌, length, Some, None, Option, refl, sym, ap, ◌∙◌, arith, length-append, ◌-◌, append_assoc, append-nil, get_or}
 use Rattle.std.proofs.lemmas.List.{get_or_default}
 use Rattle.std.specs.Option.{option_map}
 use Rattle.routes.specs.declared.stream.Stream.{Stream}
 use Rattle.routes.specs.Routes.{OpenStream, stream_of, streams_of}
 use Rattle.routes.specs.Loads.{stream_count}
-use Rattle.plan.specs.Plans.{numbered, listed, open_streams}
+use Rattle.plan.specs.Plans.{listed, open_streams}
 
 module _ (streams : ℕ → Option OpenStream) (k n : ℕ) where
   pub not_listed : streams k ≡ None → listed streams k (suc n) ≡ listed streams (k + 1) n
@@ -54,7 +54,9 @@ module _ (streams : ℕ → Option OpenStream) (k : ℕ) (told : List (ℕ × Op
       let none : so_far.rest ≡ 0 = omega (arith, so_far.split) in
       sym (append-nil told) ∙ (ap (λ n. told ++ listed streams k n) (sym none) ∙ so_far.all)
 
--- the open stream of an entry of the table
-pub entry_open : (table : List (Option Stream)) (k : ℕ) (d : Option Stream) (s : Stream) → k < length table → get_or table k d ≡ Some s
-    → streams_of table k ≡ Some (stream_of s)
-entry_open table k d s there is = ap (option_map stream_of) (get_or_default table k None d there ∙ is)
+-- what an entry of a table of streams says
+pub entry_says : (table read : List (Option Stream)) (k at : ℕ) (d entry : Option Stream) → read ≡ table → at ≡ k → k < length table → get_or read at d ≡ entry
+    → streams_of table k ≡ option_map stream_of entry
+entry_says table read k at d entry same here there is =
+    let found : get_or table k d ≡ entry = rw (← same, ← here) is in
+    ap (option_map stream_of) (get_or_default table k None d there ∙ found)

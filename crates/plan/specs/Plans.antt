@@ -20,11 +20,11 @@ unfoldable pub open_streams : (ℕ → Option OpenStream) → List (ℕ × OpenS
 open_streams streams = listed streams 0 stream_count
 
 -- the numbers of a record: stream, source, target, demand, count of hops, and the hops
-abbrev pub record_numbers : (ℕ × OpenStream) → List ℕ
+unfoldable pub record_numbers : (ℕ × OpenStream) → List ℕ
 record_numbers r = r.0 ∷ (r.1.request.source ∷ (r.1.request.target ∷ (r.1.request.demand ∷ (length r.1.hops ∷ map hop_number r.1.hops))))
 
 -- the numbers of a head: version, rule, width, height, lanes, depth, capacity, and the count of streams
-abbrev pub head_numbers : Head → ℕ → List ℕ
+unfoldable pub head_numbers : Head → ℕ → List ℕ
 head_numbers h count = h.version ∷ (h.rule ∷ (h.width ∷ (h.height ∷ (h.lanes ∷ (h.depth ∷ (h.capacity ∷ (count ∷ [])))))))
 
 -- the numbers of records, one after another

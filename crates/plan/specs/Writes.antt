@@ -1,5 +1,5 @@
 -- What a writer of plans answers and leaves.
-use Rattle.std.specs.Prelude.{◌≡◌, ℕ, List, length, Ok, Err, Result}
+use Rattle.std.specs.Prelude.{ℕ, List, length, Ok, Err, Result}
 use Rattle.refusals.specs.declared.refusal.Refusal.{Refusal}
 use Rattle.codec.specs.declared.head.Head.{Head}
 use Rattle.codec.specs.declared.head.HeadFault.{HeadFault}

@@ -46,6 +46,7 @@ fn put_numbers(plan: &mut PlanBytes, numbers: &[u16])
 }
 
 // Writes the head of a plan of so many streams.
+#[tactic(auto, unfolding(crate::specs::Plans::head_numbers))]
 pub(crate) fn put_head(plan: &mut PlanBytes, head: &Head, count: u16)
     requires { length plan.old.items + length (numbers_bytes (head_numbers head.now count)) ≤ 3530 }
     ensures { plan.new.items ≡ plan.old.items ++ numbers_bytes (head_numbers head.now count) }
@@ -83,6 +84,7 @@ fn put_hops(plan: &mut PlanBytes, hops: &[Hop])
 }
 
 // Writes the record of a stream.
+#[tactic(auto, unfolding(crate::specs::Plans::record_numbers))]
 pub(crate) fn put_record(plan: &mut PlanBytes, number: u16, stream: &Stream)
     requires room { length plan.old.items + length (numbers_bytes (record_numbers (number, stream_of stream.now))) ≤ 3530 }
     requires small { list_all (λ h. nat_le (hop_number h) 65535) (hops_of stream.now.route) ≡ true }

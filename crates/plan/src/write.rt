@@ -5,7 +5,9 @@ ghost use Rattle.layouts.specs.Layout.{Meaning, Lawful};
 ghost use Rattle.grid.specs.Sound.{Sound};
 ghost use Rattle.grid.specs.Views.{streams_in};
 ghost use Rattle.plan.specs.Buffers.{Puts};
-ghost use Rattle.plan.specs.Plans.{plan_bytes};
+ghost use Rattle.plan.specs.Plans.{open_streams, plan_bytes};
+ghost use Rattle.plan.specs.Loads.{sizes_of};
+ghost use Rattle.codec.specs.Heads.{judged};
 ghost use Rattle.plan.specs.Writes.{written};
 
 use crate::buffer::put;
@@ -17,13 +19,15 @@ use grid::grid::Grid;
 use layouts::layout::Layout;
 use refusals::refusal::Refusal;
 
-// The plan of the open streams under a head.
-fn plan_of<L: Layout>(grid: &Grid<L>, head: &Head) -> PlanBytes
+// The plan of the open streams, so many, under a head.
+fn plan_of<L: Layout>(grid: &Grid<L>, head: &Head, count: u16) -> PlanBytes
+    requires count { count ≡ length (open_streams (streams_in grid.now.tables)) }
+    requires judged { judged head.now count (sizes_of grid.now.tables) ≡ Ok tt }
     ensures { result.items ≡ plan_bytes head.now (streams_in grid.now.tables) }
 {
     let streams = grid.streams();
     let mut plan = PlanBytes::new();
-    put_head(&mut plan, head, open_count(streams));
+    put_head(&mut plan, head, count);
     for number in 0..64 {
         let Some(stream) = &streams[usize::from(number)] else {
             continue;
@@ -45,5 +49,5 @@ pub fn write<L: Layout>(grid: &Grid<L>, head: &Head, buffer: &mut [u8]) -> Resul
     if let Err(fault) = judge_head(head, count, sizes_of(grid)) {
         return Err(fault.refusal);
     }
-    put(buffer, plan_of(grid, head).as_slice())
+    put(buffer, plan_of(grid, head, count).as_slice())
 }

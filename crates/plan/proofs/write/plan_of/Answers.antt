@@ -1,0 +1,56 @@
+use Rattle.std.proofs.Common.{◌≡◌, ℕ, ◌+◌, ◌<◌, length, Some, None, sym, ap, subst, arith}
+use Rattle.routes.specs.Routes.{OpenStream, stream_of}
+use Rattle.routes.specs.Loads.{stream_count}
+use Rattle.grid.specs.Views.{streams_in}
+use Rattle.plan.specs.Loads.{sizes_of}
+use Rattle.plan.proofs.Lengths.{SmallStream, SmallHead, small_stream, small_head, head_short, plan_short}
+use Rattle.plan.proofs.Listing.{entry_says}
+use Rattle.plan.proofs.Writing.{SoFar, none_written, open_written, closed_written, room_for, hops_fit}
+use Rattle.plan.proofs.write.plan_of.Given as given
+use Rattle.plan.proofs.write.plan_of.Goals as goal
+use Rattle.plan.proofs.write.plan_of.Goals.{In-Some}
+
+pub put_head-requires : goal.put_head-requires
+put_head-requires g c =
+    let head = small_head c.args.head.now c.args.count (sizes_of c.args.grid.now.tables) c.requires.judged in
+    omega (arith, head_short c.args.head.now c.args.count _ head, ap length c.new-plan.ensures)
+
+pub loop-number-init : goal.loop-number-init
+loop-number-init g c = none_written _ _ _ _ _ c.new-plan.ensures c.requires.count c.put_head.ensures
+
+pub loop-number-preserved-in_default : goal.loop-number-preserved-in_default
+loop-number-preserved-in_default g c =
+    let table = c.args.grid.now.tables in
+    closed_written _ _ _ _ c.loop-number.invariant (omega arith)
+    (entry_says table.streams _ _ _ _ None c.streams-streams.ensures c.from.ensures (omega (arith, table.all)) c.in_default.is)
+
+-- the numbers of all open streams are small
+small : (g : given.Over) (c : In-Some g) → (n : ℕ) (s : OpenStream) → n < stream_count → streams_in c.args.grid.now.tables n ≡ Some s → SmallStream n s
+small g c n s there is =
+    let grid = c.args.grid.now in
+    small_stream _ (g.met.L.Layout.lawful grid.layout) grid.tables.lanes.size.lanes grid.tables.capacity grid.tables.lanes.size.wide.1 (streams_in grid.tables) grid.sound n s there is
+
+-- the stream at hand
+at_hand : (g : given.Over) (c : In-Some g) → streams_in c.args.grid.now.tables c.loop-number.number ≡ Some (stream_of c.in-Some.stream)
+at_hand g c =
+    let table = c.args.grid.now.tables in
+    entry_says table.streams _ _ _ _ (Some c.in-Some.stream) c.streams-streams.ensures c.from.ensures (omega (arith, table.all)) c.in-Some.is
+
+pub put_record-requires-clause-room : goal.put_record-requires-clause-room
+put_record-requires-clause-room g c =
+    let here = (goal.at.put_record-requires-clause-room g c).In-Some in
+    let streams = streams_in c.args.grid.now.tables in
+    let sizes = sizes_of c.args.grid.now.tables in
+    let head = subst (λ count. SmallHead c.args.head.now count sizes) c.requires.count (small_head c.args.head.now c.args.count sizes c.requires.judged) in
+    omega (arith, room_for _ _ _ _ c.loop-number.invariant _ (omega arith) (at_hand g here), plan_short c.args.head.now streams sizes head (small g here))
+
+pub put_record-requires-clause-small : goal.put_record-requires-clause-small
+put_record-requires-clause-small g c =
+    let here = (goal.at.put_record-requires-clause-small g c).In-Some in
+    hops_fit _ (small g here c.loop-number.number (stream_of c.in-Some.stream) (omega arith) (at_hand g here)).hops
+
+pub loop-number-preserved : goal.loop-number-preserved
+loop-number-preserved g c =
+    let here = (goal.at.loop-number-preserved g c).In-Some in
+    subst (SoFar c.args.head.now (streams_in c.args.grid.now.tables) (c.loop-number.number + 1)) (sym c.put_record.ensures)
+    (open_written _ _ _ _ c.loop-number.invariant (stream_of c.in-Some.stream) (omega arith) (at_hand g here))

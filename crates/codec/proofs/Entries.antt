@@ -23,7 +23,7 @@ entry stream source target demand count hops next = record {
 module _ (plan : List ℕ) (start : ℕ) (stream source target demand count : Number) (a : Ok stream ≡ number_at plan start)
     (b : Ok source ≡ number_at plan stream.next) (c : Ok target ≡ number_at plan source.next) (d : Ok demand ≡ number_at plan target.next)
     (e : Ok count ≡ number_at plan demand.next) where
-  with_hops : (s : Sequence) → numbers_at plan count.next (hops_read count.value) ≡ Ok s
+  pub with_hops : (s : Sequence) → numbers_at plan count.next (hops_read count.value) ≡ Ok s
       → record_at plan start ≡ Ok (entry stream source target demand count (map hop_of s.values) s.next)
   with_hops s is = rw (sym a, sym b, sym c, sym d, sym e, is) refl
 

@@ -3,3 +3,4 @@ pub mod Standing
 pub mod Sequenced
 pub mod Hops
 pub mod Entries
+pub mod Reread

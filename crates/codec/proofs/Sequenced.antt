@@ -1,9 +1,8 @@
 -- Numbers one after another that are read stand as they are written, and those that are written are read.
-use Rattle.std.proofs.Common.{◌≡◌, ℕ, zero, suc, ◌+◌, ◌≤◌, List, [], ◌∷◌, ◌++◌, length, drop, Ok, Err, Result, refl, sym, ap, ◌∙◌, arith, append_assoc, subst, length-append}
+use Rattle.std.proofs.Common.{◌≡◌, ℕ, zero, suc, ◌+◌, ◌≤◌, List, [], ◌∷◌, ◌++◌, length, drop, Ok, refl, sym, ap, ◌∙◌, arith, append_assoc, subst, length-append}
 use Rattle.std.proofs.Math.Seq.{drop-append_seam}
 use Rattle.std.proofs.lemmas.List.{drop-drop, get_or-drop}
 use Rattle.codec.specs.declared.number.Number.{Number}
-use Rattle.codec.specs.Reads.{then}
 use Rattle.codec.specs.Numbers.{number_at, number_bytes}
 use Rattle.codec.specs.Records.{Sequence, sequence, numbers_at, numbers_bytes}
 use Rattle.codec.proofs.Sequences.{then_ok}

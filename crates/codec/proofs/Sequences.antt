@@ -1,5 +1,5 @@
 -- Numbers one after another, read.
-use Rattle.std.proofs.Common.{◌≡◌, ℕ, zero, suc, ◌-◌, ◌<◌, ◌≤◌, List, [], ◌∷◌, Ok, Err, Result, refl, sym, ap, ◌∙◌, arith}
+use Rattle.std.proofs.Common.{◌≡◌, ℕ, zero, suc, ◌-◌, ◌<◌, ◌≤◌, List, ◌∷◌, Ok, Err, Result, refl, sym, ap, ◌∙◌, arith}
 use Rattle.codec.specs.declared.number.ByteFault.{ByteFault}
 use Rattle.codec.specs.declared.number.Number.{Number}
 use Rattle.codec.specs.Reads.{then}

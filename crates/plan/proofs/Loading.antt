@@ -6,11 +6,11 @@ use Rattle.layouts.specs.Layout.{Meaning}
 use Rattle.routes.specs.declared.declined.Declined.{Declined}
 use Rattle.routes.specs.declared.hop.Hop.{Hop}
 use Rattle.routes.specs.declared.stream.Request.{Request}
-use Rattle.model.specs.Grid.{Grid, with_stream}
+use Rattle.model.specs.Grid.{Grid, assign, with_stream}
 use Rattle.model.specs.Calls.{opens, Answer, done, declined, unless_declined, open_refusal}
 use Rattle.lanes.specs.Queues.{alike_slots}
 use Rattle.grid.specs.declared.tables.Tables.{Tables}
-use Rattle.grid.specs.Views.{view, slots_alike, outline, setting}
+use Rattle.grid.specs.Views.{streams_in, view, slots_alike, outline, setting}
 use Rattle.grid.specs.Makes.{Same, Edits}
 use Rattle.codec.specs.declared.head.HeadNumbers.{HeadNumbers}
 use Rattle.codec.specs.declared.number.ByteFault.{ByteFault}
@@ -55,6 +55,25 @@ module _ (m : Meaning) (t t' : Tables) (n : ℕ) (q : Request) (hops : List Hop)
   setting_is : (a : Answer (Unit {0})) → Edits m t (opens n q hops) a t' → setting m t' 0 ≡ setting m t 0
   setting_is a edits = rw (edits.made.size, edits.made.capacity) refl
 
+  pub streams_after : Edits m t (opens n q hops) done t' → streams_in t' ≡ assign (streams_in t) n (Some (record { request = q; hops = hops }))
+  streams_after edits = ap (λ g. g.streams) (outline_is edits)
+
+  -- the records behind it are loaded on the grid that it leaves
+  on_opened : Edits m t (opens n q hops) done t' → (plan : List ℕ) (k place count : ℕ) → records_from (setting m t' 0) plan (outline t') k place count
+      ≡ records_from (setting m t 0) plan (with_stream (outline t) n (Some (record { request = q; hops = hops }))) k place count
+  on_opened edits plan k place count = rw (setting_is done edits, outline_is edits) refl
+
+-- what has come of a record that is read and not declined
+pub first_opened : (m : Meaning) (plan : List ℕ) (t : Tables) (k place n : ℕ) (e : Entry) (r : Result ℕ LoadFault) (t' : Tables) → record_at plan place ≡ Ok e
+    → open_refusal (setting m t 0) (outline t) e.stream e.request e.hops ≡ None
+    → ComesTo m t (records_from (setting m t 0) plan (outline t) k place (suc n)) r t'
+    → (between : Tables) × Edits m t (opening_of e) done between × ComesTo m between (records_from (setting m between 0) plan (outline between) (k + 1) e.next n) r t'
+unfolding records_from
+first_opened m plan t k place n e r t' is none comes =
+    let parts = rw (is, none) at comes in
+    let between = parts.1.0 in
+    (between, parts.1.1, subst (λ l. ComesTo m between l r t') (sym (on_opened m t between e.stream e.request e.hops parts.1.1 plan (k + 1) e.next n)) (parts.0, parts.1.2))
+
 module _ (m : Meaning) (start : Tables) (whole : Loading) (plan : List ℕ) (t : Tables) (k place : ℕ) where
   pub cut_short : (n : ℕ) (f : InRecord ByteFault) → Left m start whole plan t k place n → 0 < n → f.number ≡ k → record_at plan place ≡ Err f.fault
       → ComesTo m start whole (Err (fault.RecordBytes f)) t
@@ -76,10 +95,7 @@ module _ (m : Meaning) (start : Tables) (whole : Loading) (plan : List ℕ) (t :
     let_on n' n_is edits = record {
       so = λ r t'' more.
           let here = subst (λ x. Edits x t (opening_of e) done t') stays edits in
-          let rest : records_from (setting m t' 0) plan (outline t') (k + 1) e.next n'
-          ≡ records_from (setting m t 0) plan (with_stream (outline t) e.stream (Some (record { request = e.request; hops = e.hops }))) (k + 1) e.next n' =
-          rw (setting_is m t t' e.stream e.request e.hops done here, outline_is m t t' e.stream e.request e.hops here) refl in
-          let comes = subst (λ l. ComesTo m t' l r t'') rest more in
+          let comes = subst (λ l. ComesTo m t' l r t'') (on_opened m t t' e.stream e.request e.hops here plan (k + 1) e.next n') more in
           left.so r t'' (rw (n_is, is, opened m t t' e.stream e.request e.hops here) (comes.0, (t', here, comes.1)));
     }
 

@@ -1,8 +1,12 @@
 -- A plan written record by record.
-use Rattle.std.proofs.Common.{◌≡◌, ℕ, suc, ◌+◌, ◌<◌, ◌≤◌, true, nat_le, List, [], ◌∷◌, ◌++◌, length, Some, None, Option, refl, sym, ap, ◌∙◌, arith, append_assoc, append-nil, length-append}
+use Rattle.std.proofs.Common.{◌≡◌, ℕ, suc, cond, nat_lt, false, take, Ok, Err, Result, IfOk, subst, ◌+◌, ◌<◌, ◌≤◌, true, nat_le, List, [], ◌∷◌, ◌++◌, length, Some, None, Option, refl, sym, ap, ◌∙◌, arith, append_assoc, append-nil, length-append}
 use Rattle.std.specs.List.{list_all}
 use Rattle.std.proofs.lemmas.Bool.Decides.{nat_tests}
 use Rattle.std.proofs.lemmas.Grind.{flat_map-append}
+use Rattle.std.proofs.Math.Seq.{take-append_seam}
+use Rattle.refusals.specs.declared.refusal.Refusal.{Refusal}
+use Rattle.refusals.specs.declared.refusal.Refusal.TheVariants.{BufferTooShort}
+use Rattle.plan.specs.Buffers.{fitted, Puts}
 use Rattle.routes.specs.declared.hop.Hop.{Hop}
 use Rattle.routes.specs.Routes.{OpenStream, hop_at}
 use Rattle.routes.specs.Loads.{stream_count}
@@ -79,3 +83,12 @@ hops_fit [] small = refl
 hops_fit (h ∷ hops) small =
     let first : nat_le (hop_number h) 65535 ≡ true = grind (arith, nat_tests, small 0 (omega arith)) in
     rw first (hops_fit hops (λ k less. small (suc k) (omega arith)))
+
+-- what holds of bytes holds of what stands in the buffer that they are put into
+pub in_buffer : (P : List ℕ → Type 0) (size : ℕ) (bytes before after : List ℕ) (r : Result ℕ Refusal) → Puts (fitted size bytes) before r after → P bytes
+    → IfOk r (λ n. P (take n after))
+in_buffer P size bytes before after r puts so =
+    elim (nat_lt size (length bytes)) as (λ short. Puts (cond short (Err BufferTooShort) (Ok bytes)) before r after → IfOk r (λ n. P (take n after))) [
+      | true ↦ λ puts. rw puts.0 tt
+      | false ↦ λ puts. rw (puts.0, puts.1) (subst P (sym (take-append_seam bytes _)) so)
+    ] puts

@@ -18,7 +18,8 @@ use routes::hop::Hop;
 
 // What a head has to fit.
 pub(crate) fn sizes_of<L: Layout>(grid: &Grid<L>) -> GridSizes
-    ensures { result ≡ sizes_of grid.now.tables }
+    ensures value { result ≡ sizes_of grid.now.tables }
+    ensures bound { result.capacity ≤ 65535 }
 {
     GridSizes {
         lanes: grid.size().lanes(),

@@ -1,13 +1,11 @@
 // Writing the plan of a grid's open streams.
-ghost use Rattle.std.specs.Prelude.{◌≡◌, ◌≤◌, ◌<◌, length, IfOk};
-ghost use Rattle.routes.specs.Routes.{streams_of};
-ghost use Rattle.layouts.specs.Layout.{Meaning, Lawful};
-ghost use Rattle.grid.specs.Sound.{Sound};
+ghost use Rattle.std.specs.Prelude.{◌≡◌, ◌≤◌, Ok, length, take, IfOk};
 ghost use Rattle.grid.specs.Views.{streams_in};
 ghost use Rattle.plan.specs.Buffers.{Puts};
 ghost use Rattle.plan.specs.Plans.{open_streams, plan_bytes};
 ghost use Rattle.plan.specs.Loads.{sizes_of};
 ghost use Rattle.codec.specs.Heads.{judged};
+ghost use Rattle.plan.specs.RoundTrips.{LoadsAs};
 ghost use Rattle.plan.specs.Writes.{written};
 
 use crate::buffer::put;
@@ -44,6 +42,7 @@ fn plan_of<L: Layout>(grid: &Grid<L>, head: &Head, count: u16) -> PlanBytes
 pub fn write<L: Layout>(grid: &Grid<L>, head: &Head, buffer: &mut [u8]) -> Result<usize, Refusal>
     ensures made { Puts (written head.now grid.now.tables (length buffer.old)) buffer.old result buffer.new }
     ensures short { IfOk result (λ count. count ≤ 3530) }
+    ensures loads { IfOk result (λ count. LoadsAs (L.meaning grid.now.layout) (sizes_of grid.now.tables) (streams_in grid.now.tables) (take count buffer.new)) }
 {
     let count = open_count(grid.streams());
     if let Err(fault) = judge_head(head, count, sizes_of(grid)) {

@@ -5,7 +5,7 @@ use Rattle.plan.proofs.Loading.{begun, cut_short, turned_away, let_on, trailing,
 use Rattle.plan.proofs.load.load.Goals as goal
 
 pub loop-number-init : goal.loop-number-init
-loop-number-init g c = (refl, begun _ _ _ _ _ (c.in_ok-head.ensures ∙ ap (λ sizes. accepted_head sizes c.args.plan.now) c.sizes_of.ensures) c.from-count.ensures)
+loop-number-init g c = (refl, begun _ _ _ _ _ (c.in_ok-head.ensures ∙ ap (λ sizes. accepted_head sizes c.args.plan.now) c.sizes_of.ensures.value) c.from-count.ensures)
 
 pub returns-in_err-told-clause-made : goal.returns-in_err-told-clause-made
 returns-in_err-told-clause-made g c =

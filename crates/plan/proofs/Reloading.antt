@@ -1,0 +1,225 @@
+-- A plan that is written loads as the streams that it was written of.
+use Rattle.std.proofs.Common.{◌≡◌, ℕ, zero, suc, ◌+◌, ◌<◌, ◌≤◌, ◌==◌, Bool, true, false, cond, nat_lt, List, [], ◌∷◌, ◌++◌, length, length-drop, map, Some, None, Ok, Option, Result, refl, sym, ap, ◌∙◌, subst, arith, append_assoc, append-nil, zero-add}
+use mathlib.Core.Path.{fun_ext}
+use Rattle.std.proofs.lemmas.Bool.Decides.{nat_tests}
+use Rattle.std.proofs.lemmas.Grind.{flat_map-append}
+use Rattle.layouts.specs.Layout.{Meaning, Lawful}
+use Rattle.routes.specs.declared.hop.Hop.{Hop}
+use Rattle.routes.specs.Routes.{OpenStream, hop_at, streams_of}
+use Rattle.routes.specs.Loads.{stream_count}
+use Rattle.routes.specs.Checks.{terms_on, judgement}
+use Rattle.model.specs.Grid.{assign}
+use Rattle.model.specs.Calls.{open_refusal, vacancy, done}
+use Rattle.grid.specs.declared.tables.Tables.{Tables}
+use Rattle.grid.specs.Blank.{BlankTables}
+use Rattle.grid.specs.Sound.{Sound, streams_below}
+use Rattle.grid.specs.Views.{streams_in, outline, setting}
+use Rattle.grid.specs.Makes.{Edits}
+use Rattle.grid.proofs.Sounding.{reopens}
+use Rattle.codec.specs.declared.head.GridSizes.{GridSizes}
+use Rattle.codec.specs.declared.head.Head.{Head}
+use Rattle.codec.specs.declared.head.HeadNumbers.{HeadNumbers}
+use Rattle.codec.specs.Heads.{head_at, values_of, judged}
+use Rattle.codec.specs.Numbers.{number_bytes}
+use Rattle.codec.specs.Records.{Entry, hop_number, numbers_bytes, record_at}
+use Rattle.codec.proofs.Sequenced.{Small}
+use Rattle.codec.proofs.Reread.{Ahead, in_head, head_reread, in_record, record_reread}
+use Rattle.plan.specs.declared.fault.LoadFault.{LoadFault}
+use Rattle.plan.specs.Loads.{accepted_head, sizes_of, opening_of, records_from, ComesTo, Loads}
+use Rattle.plan.specs.Plans.{numbered, listed, open_streams, record_numbers, records_numbers, head_numbers, plan_bytes}
+use Rattle.plan.specs.RoundTrips.{LoadsAs}
+use Rattle.plan.proofs.Lengths.{small_stream, small_head, demand_borne}
+use Rattle.plan.proofs.Loading.{first_opened, streams_after}
+
+none_either : (b : Bool) → cond {A = Option OpenStream} b None None ≡ None
+none_either true = refl
+none_either false = refl
+
+-- the streams below the next number
+module _ (streams : ℕ → Option OpenStream) (k : ℕ) where
+  pub below_closed : streams k ≡ None → streams_below k streams ≡ streams_below (k + 1) streams
+  below_closed none = fun_ext (λ j.
+      elim (j == k) as (λ here. (j == k) ≡ here → streams_below k streams j ≡ streams_below (k + 1) streams j) [
+        | true ↦ λ here. let same : j ≡ k = grind (arith, nat_tests) in let closed : streams j ≡ None = ap streams same ∙ none in rw (closed) (none_either (nat_lt j k) ∙ sym (none_either (nat_lt j (k + 1))))
+        | false ↦ λ here. let tests : nat_lt j k ≡ nat_lt j (k + 1) = grind (arith, nat_tests) in rw tests refl
+      ] refl)
+
+  pub below_open : (s : OpenStream) → streams k ≡ Some s → assign (streams_below k streams) k (Some s) ≡ streams_below (k + 1) streams
+  unfolding assign
+  below_open s is = fun_ext (λ j.
+      elim (j == k) as (λ here. (j == k) ≡ here → cond here (Some s) (streams_below k streams j) ≡ streams_below (k + 1) streams j) [
+        | true ↦ λ here. let same : j ≡ k = grind (arith, nat_tests) in let entry : streams j ≡ Some s = ap streams same ∙ is in let test : nat_lt j (k + 1) ≡ true = grind (arith, nat_tests) in rw (test, entry) refl
+        | false ↦ λ here. let tests : nat_lt j k ≡ nat_lt j (k + 1) = grind (arith, nat_tests) in rw tests refl
+      ] refl)
+
+small_hops : (hops : List Hop) → ((k : ℕ) → k < length hops → hop_number (hop_at hops k) < 1024) → Small (map hop_number hops)
+small_hops [] small = tt
+small_hops (h ∷ hops) small = (omega (arith, small 0 (omega arith)), small_hops hops (λ k less. small (suc k) (omega arith)))
+
+-- The open streams of a grid, which are to be opened again by a plan.
+module _ (m : Meaning) (law : Lawful m) (sizes : GridSizes) (few : sizes.lanes ≤ 4) (bound : sizes.capacity ≤ 65535) (streams : ℕ → Option OpenStream)
+    (sound : Sound m sizes.lanes sizes.capacity streams) (plan : List ℕ) where
+  -- those of numbers below k have been opened
+  record Reopened (t : Tables) (k : ℕ) : Type 0 where
+    lanes : t.lanes.size.lanes ≡ sizes.lanes
+    capacity : t.capacity ≡ sizes.capacity
+    streams_are : streams_in t ≡ streams_below k streams
+
+  none_reopened : (t : Tables) → BlankTables m.links sizes.lanes sizes.depth sizes.capacity t → Reopened t 0
+  none_reopened t blank = record {
+    lanes = blank.has_lanes;
+    capacity = blank.has_capacity;
+    streams_are = fun_ext (λ n. let test : nat_lt n 0 ≡ false = grind (arith, nat_tests) in rw test (blank.no_stream n));
+  }
+
+  small_record : (k : ℕ) (s : OpenStream) → k < stream_count → streams k ≡ Some s → Small (in_record k s.request s.hops)
+  small_record k s there is =
+      let small = small_stream m law sizes.lanes sizes.capacity few streams sound k s there is in (
+        omega (arith, small.number),
+        (
+          omega (arith, small.source),
+          (
+            omega (arith, small.target),
+            (
+              omega (arith, demand_borne m sizes.lanes sizes.capacity streams sound k s is),
+              (omega (arith, small.count), small_hops s.hops small.hops),
+            ),
+          ),
+        ),
+      )
+
+  not_declined : (t : Tables) (k : ℕ) (s : OpenStream) → Reopened t k → k < stream_count → streams k ≡ Some s → open_refusal (setting m t 0) (outline t) k s.request s.hops ≡ None
+  unfolding open_refusal
+  not_declined t k s so_far there is =
+      let number : nat_lt k stream_count ≡ true = grind (arith, nat_tests) in
+      let above : nat_lt k k ≡ false = grind (arith, nat_tests) in
+      let vacant : vacancy (streams_below k streams) k ≡ Ok tt = rw (number, above) refl in
+      let vacant_here = subst (λ f. vacancy f k ≡ Ok tt) (sym so_far.streams_are) vacant in
+      let judged : judgement (terms_on m t.lanes.size.lanes t.capacity (streams_in t)) s.request s.hops ≡ None =
+      rw (so_far.lanes, so_far.capacity, so_far.streams_are) (reopens sound k s is there) in
+      rw (vacant_here, judged) refl
+
+  reopened_one : (t between : Tables) (k : ℕ) (s : OpenStream) (e : Entry) → Reopened t k → streams k ≡ Some s → e.stream ≡ k → e.request ≡ s.request → e.hops ≡ s.hops
+      → Edits m t (opening_of e) done between → Reopened between (k + 1)
+  reopened_one t between k s e so_far is stream_is request_is hops_are edits =
+      let after : streams_in between ≡ assign (streams_in t) e.stream (Some (record { request = e.request; hops = e.hops })) = streams_after m t between e.stream e.request e.hops edits in
+      record {
+        lanes = ap (λ size. size.lanes) edits.made.size ∙ so_far.lanes;
+        capacity = edits.made.capacity ∙ so_far.capacity;
+        streams_are = rw (stream_is, request_is, hops_are, so_far.streams_are) at after ∙ below_open streams k s is;
+      }
+
+  reopened_none : (t : Tables) (k : ℕ) → Reopened t k → streams k ≡ None → Reopened t (k + 1)
+  reopened_none t k so_far none = record { lanes = so_far.lanes; capacity = so_far.capacity; streams_are = so_far.streams_are ∙ below_closed streams k none }
+
+  lanes_low : (k : ℕ) (s : OpenStream) → streams k ≡ Some s → (j : ℕ) → j < length s.hops → (hop_at s.hops j).lane < 4
+  lanes_low k s is j less = omega (arith, ((sound.routes k s is).on_grid j less).1)
+
+  record_ahead : (k : ℕ) (s : OpenStream) (rest : List (ℕ × OpenStream)) (place : ℕ) → Ahead plan place (records_numbers ((k, s) ∷ rest)) []
+      → Ahead plan place (in_record k s.request s.hops) (numbers_bytes (records_numbers rest) ++ [])
+  unfolding record_numbers
+  record_ahead k s rest place ahead = record {
+    bytes = ahead.bytes ∙ (ap (λ bytes. bytes ++ []) (flat_map-append number_bytes (record_numbers (k, s)) (records_numbers rest)) ∙ append_assoc (numbers_bytes (record_numbers (k, s))) _ _);
+  }
+
+  open_next : (t t' : Tables) (k : ℕ) (s : OpenStream) (i place n : ℕ) (r : Result ℕ LoadFault) (e : Entry) → Reopened t k → k < stream_count → streams k ≡ Some s
+      → record_at plan place ≡ Ok e → e.stream ≡ k → e.request ≡ s.request → e.hops ≡ s.hops
+      → ComesTo m t (records_from (setting m t 0) plan (outline t) i place (suc n)) r t'
+      → (between : Tables) × Reopened between (k + 1) × ComesTo m between (records_from (setting m between 0) plan (outline between) (i + 1) e.next n) r t'
+  open_next t t' k s i place n r e so_far there is read stream_is request_is hops_are comes =
+      let opened = first_opened m plan t i place n e r t' read (rw (stream_is, request_is, hops_are) (not_declined t k s so_far there is)) comes in
+      let between = opened.0 in
+      (between, reopened_one t between k s e so_far is stream_is request_is hops_are opened.1, opened.2)
+
+  reload_end : (k : ℕ) → k + 0 ≡ stream_count → (t t' : Tables) (i place : ℕ) (r : Result ℕ LoadFault) → Reopened t k → Ahead plan place [] []
+      → ComesTo m t (records_from (setting m t 0) plan (outline t) i place 0) r t' → (r ≡ Ok (i + 0)) × (streams_in t' ≡ streams_below stream_count streams)
+  unfolding records_from
+  reload_end k split t t' i place r so_far ahead comes =
+      let none : length plan ≤ place = omega (arith, ap length ahead.bytes, length-drop place plan) in
+      let test : nat_lt place (length plan) ≡ false = grind (arith, nat_tests) in
+      let here = rw test at comes in
+      let last : k ≡ stream_count = omega (arith, split) in
+      (here.0 ∙ ap Ok (omega arith), ap streams_of here.1.streams ∙ (so_far.streams_are ∙ ap (λ j. streams_below j streams) last))
+
+  -- the records that are left open the streams that are left
+  reload : (k n : ℕ) → k + n ≡ stream_count → (t t' : Tables) (i place : ℕ) (r : Result ℕ LoadFault) → Reopened t k → Ahead plan place (records_numbers (listed streams k n)) []
+      → ComesTo m t (records_from (setting m t 0) plan (outline t) i place (length (listed streams k n))) r t'
+      → (r ≡ Ok (i + length (listed streams k n))) × (streams_in t' ≡ streams_below stream_count streams)
+  reload k zero split t t' i place r so_far ahead comes = reload_end k split t t' i place r so_far ahead comes
+  reload k (suc n) split t t' i place r so_far ahead comes =
+      let rest = listed streams (k + 1) n in
+      let next : (k + 1) + n ≡ stream_count = omega (arith, split) in
+      elim (streams k) as (λ entry. streams k ≡ entry → Ahead plan place (records_numbers (numbered k entry ++ rest)) []
+      → ComesTo m t (records_from (setting m t 0) plan (outline t) i place (length (numbered k entry ++ rest))) r t'
+      → (r ≡ Ok (i + length (numbered k entry ++ rest))) × (streams_in t' ≡ streams_below stream_count streams)) [
+        | None ↦ λ none ahead comes. reload (k + 1) n next t t' i place r (reopened_none t k so_far none) ahead comes
+        | Some s ↦ λ is ahead comes.
+            let there : k < stream_count = omega (arith, split) in
+            let first = record_reread (sound.routes k s is).count.1 (lanes_low k s is) (small_record k s there is) (record_ahead k s rest place ahead) in
+            let opened = open_next t t' k s i place (length rest) r first.entry so_far there is first.is first.stream_is first.request_is first.hops_are comes in
+            let more = reload (k + 1) n next opened.0 t' (i + 1) first.entry.next r opened.1 (record { bytes = first.rest_is }) opened.2 in
+            (more.0 ∙ ap Ok (omega arith), more.1)
+      ]
+      refl ahead comes
+
+below_all : (streams : ℕ → Option OpenStream) → ((n : ℕ) → stream_count ≤ n → streams n ≡ None) → (n : ℕ) → streams_below stream_count streams n ≡ streams n
+below_all streams beyond n =
+    elim (nat_lt n stream_count) as (λ low. nat_lt n stream_count ≡ low → cond low (streams n) None ≡ streams n)
+    [ true ↦ λ low. refl | false ↦ λ high. sym (beyond n (grind (arith, nat_tests))) ] refl
+
+-- loading behind a head that is accepted
+headed : (m : Meaning) (t t' : Tables) (plan : List ℕ) (r : Result ℕ LoadFault) (h : HeadNumbers) (count : ℕ) → accepted_head (sizes_of t) plan ≡ Ok h → h.count.value ≡ count
+    → Loads m t plan r t' → ComesTo m t (records_from (setting m t 0) plan (outline t) 0 h.count.next count) r t'
+headed m t t' plan r h count accepted counted loads =
+    let comes = rw accepted at loads in
+    subst (λ n. ComesTo m t (records_from (setting m t 0) plan (outline t) 0 h.count.next n) r t') counted comes
+
+head_accepted : (sizes : GridSizes) (plan : List ℕ) (h : Head) (count : ℕ) (n : HeadNumbers) → head_at plan ≡ Ok n → values_of n ≡ h → n.count.value ≡ count
+    → judged h count sizes ≡ Ok tt → accepted_head sizes plan ≡ Ok n
+head_accepted sizes plan h count n is values counted pass =
+    let here : judged (values_of n) n.count.value sizes ≡ Ok tt = rw (values, counted) pass in
+    rw (is, here) refl
+
+-- the plan of a grid's open streams
+module _ (m : Meaning) (law : Lawful m) (sizes : GridSizes) (few : sizes.lanes ≤ 4) (bound : sizes.capacity ≤ 65535) (streams : ℕ → Option OpenStream)
+    (sound : Sound m sizes.lanes sizes.capacity streams) (beyond : (n : ℕ) → stream_count ≤ n → streams n ≡ None) (h : Head)
+    (pass : judged h (length (open_streams streams)) sizes ≡ Ok tt) where
+  small_in_head : Small (in_head h (length (open_streams streams)))
+  small_in_head =
+      let small = small_head h (length (open_streams streams)) sizes pass in (
+        omega (arith, small.version),
+        (
+          omega (arith, small.rule),
+          (
+            omega (arith, small.width),
+            (
+              omega (arith, small.height),
+              (
+                omega (arith, small.lanes),
+                (
+                  omega (arith, small.depth),
+                  (omega (arith, small.capacity), (omega (arith, small.streams), tt)),
+                ),
+              ),
+            ),
+          ),
+        ),
+      )
+
+  head_ahead : Ahead (plan_bytes h streams) 0 (in_head h (length (open_streams streams))) (numbers_bytes (records_numbers (open_streams streams)) ++ [])
+  unfolding head_numbers
+  head_ahead = record {
+    bytes = flat_map-append number_bytes (head_numbers h (length (open_streams streams))) (records_numbers (open_streams streams))
+        ∙ ap (λ bytes. numbers_bytes (head_numbers h (length (open_streams streams))) ++ bytes) (sym (append-nil _));
+  }
+
+  pub loads_as : LoadsAs m sizes streams (plan_bytes h streams)
+  unfolding open_streams
+  loads_as t t' r blank loads =
+      let plan = plan_bytes h streams in
+      let head = head_reread small_in_head head_ahead in
+      let same : sizes_of t ≡ sizes = rw (blank.has_lanes, blank.has_depth, blank.has_capacity) refl in
+      let accepted = head_accepted (sizes_of t) plan h (length (open_streams streams)) head.numbers head.is head.values head.count_is (rw same pass) in
+      let comes = headed m t t' plan r head.numbers (length (open_streams streams)) accepted head.count_is loads in
+      let all = reload m law sizes few bound streams sound plan 0 stream_count refl t t' 0 head.numbers.count.next r (none_reopened m law sizes few bound streams sound plan t blank) (record { bytes = head.rest_is }) comes in
+      (all.0 ∙ ap Ok (zero-add _), λ n. ap (λ f. f n) all.1 ∙ below_all streams beyond n)

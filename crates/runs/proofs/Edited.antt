@@ -1,5 +1,5 @@
--- Opening and closing, which are lent no slots, on a grid with slots that show its items.
-use Rattle.std.proofs.Common.{◌≡◌, ℕ, List, length, is_some, Some, None, Option, sym, refl, ap, ◌∙◌}
+-- Opening, closing and loading, which are lent no slots, on a grid with slots that show its items.
+use Rattle.std.proofs.Common.{◌≡◌, ℕ, List, [], ◌∷◌, length, is_some, Some, None, Option, Result, sym, refl, ap, ◌∙◌, subst}
 use Rattle.std.proofs.lemmas.Bool.{cond_both}
 use Rattle.layouts.specs.Layout.{Meaning}
 use Rattle.routes.specs.declared.declined.Declined.{Declined}
@@ -9,14 +9,17 @@ use Rattle.routes.specs.Routes.{OpenStream}
 use Rattle.model.specs.Grid.{Grid, with_stream}
 use Rattle.model.specs.Sums.{grid_sum}
 use Rattle.model.specs.Calls.{Call, opens, closes, Answer, declined, done, Outcome, unless_declined, open_refusal, close_refusal, outcome}
-use Rattle.model.specs.Outlines.{close_refusal-without_items}
+use Rattle.model.specs.Outlines.{without_items, close_refusal-without_items}
 use Rattle.model.specs.Runs.{is_declined}
 use Rattle.model.specs.Slots.{arrival}
-use Rattle.lanes.specs.Queues.{queues_of}
+use Rattle.lanes.specs.Queues.{queues_of, outline as lanes_outline}
 use Rattle.grid.specs.declared.tables.Tables.{Tables}
 use Rattle.grid.specs.Views.{streams_in, with_streams, view, slots_alike, outline, setting}
 use Rattle.grid.specs.Makes.{Makes, Edits}
-use Rattle.runs.specs.Calls.{Shown}
+use Rattle.codec.specs.Records.{Entry}
+use Rattle.plan.specs.declared.fault.LoadFault.{LoadFault}
+use Rattle.plan.specs.Loads.{loading_on, Opens, Loads}
+use Rattle.runs.specs.Calls.{load_reply, Shown, MakesOpenings, MakesLoad}
 
 -- the answer of a call that is done, unless it is declined
 abbrev pub answer_by : {T : Type 0} → Option Declined → Answer T
@@ -84,3 +87,21 @@ module _ {T : Type 0} (m : Meaning) (t t' : Tables) (xs : List T) (n : ℕ) (o :
       ap (λ g. close_refusal S (with_streams (streams_in t) g) n) (sym shown) ∙ close_refusal-without_items S (view t xs) n in
       lifts m t t' xs n None (close_refusal S (view t xs) n) o
       (closes n) (closes n) (ap (λ r. entering r (outline t) n None) same) refl refl edits
+
+-- records that are opened one after another
+opened_each : {T : Type 0} (m : Meaning) (xs : List T) (es : List Entry) (t t' : Tables) → Opens m t es t' → MakesOpenings m t xs es t' xs
+opened_each m xs [] t t' made = (made, refl)
+opened_each m xs (e ∷ more) t t' made =
+    (made.0, xs, opened m t made.0 xs e.stream None e.request e.hops made.1, opened_each m xs more made.0 t' made.2)
+
+lanes_kept : (m : Meaning) (es : List Entry) (t t' : Tables) → Opens m t es t' → t'.lanes ≡ t.lanes
+lanes_kept m [] t t' made = made.lanes
+lanes_kept m (e ∷ more) t t' made = lanes_kept m more made.0 t' made.2 ∙ made.1.lanes
+
+module _ {T : Type 0} (m : Meaning) (t t' : Tables) (xs : List T) (plan : List ℕ) (r : Result ℕ LoadFault) (loads : Loads m t plan r t') where
+  pub loaded : MakesLoad m t xs plan (load_reply r) t' xs
+  loaded = (ap load_reply loads.0, opened_each m xs (loading_on m t plan).opened t t' loads.1)
+
+  pub shown_loaded : Shown t xs → Shown t' xs
+  shown_loaded shown =
+      subst (λ l. without_items (queues_of l xs) ≡ lanes_outline l) (sym (lanes_kept m (loading_on m t plan).opened t t' loads.1)) shown

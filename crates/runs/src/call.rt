@@ -1,6 +1,11 @@
 // Calls as values, and their answers.
+ghost use Rattle.std.specs.Prelude.{◌≡◌};
+ghost use Rattle.routes.specs.Checks.{no_hop};
+ghost use Rattle.runs.specs.declared.call.Failure.TheVariants as failure;
 
 use grid::step::Step;
+use plan::fault::LoadFault;
+use refusals::refusal::Refusal;
 use routes::declined::Declined;
 use routes::hop::Hop;
 use routes::stream::Request;
@@ -19,6 +24,8 @@ pub enum Call<T, M> {
     Send(u16, T),
     /// Step the lane of a hop.
     Step(Hop),
+    /// Load a plan of these bytes.
+    Load(Vec<u8>),
 }
 
 /// What a call that is done answers.
@@ -30,7 +37,42 @@ pub enum Reply<T> {
     Found(usize),
     /// The lane has stepped.
     Stepped(Step<T>),
+    /// The plan is loaded, of so many records.
+    Loaded(usize),
 }
 
-/// The answer to a call, or why it was declined.
-pub type Answer<T> = Result<Reply<T>, Declined>;
+/// Why a call is not done, or not to its end.
+#[derive(Clone, Copy, PartialEq, Eq, Debug)]
+pub enum Failure {
+    /// The call was declined, and has changed nothing.
+    Declined(Declined),
+    /// The plan was not loaded to its end; the streams of the records ahead of the fault are open.
+    NotLoaded(LoadFault),
+}
+
+impl From<Declined> for Failure {
+    ghost from_gives = { λ declined result. result ≡ failure.Declined declined };
+
+    fn from(declined: Declined) -> Failure {
+        Failure::Declined(declined)
+    }
+}
+
+impl From<Refusal> for Failure {
+    ghost from_gives = { λ refusal result. result ≡ failure.Declined (no_hop refusal) };
+
+    fn from(refusal: Refusal) -> Failure {
+        Failure::Declined(refusal.into())
+    }
+}
+
+impl From<LoadFault> for Failure {
+    ghost from_gives = { λ fault result. result ≡ failure.NotLoaded fault };
+
+    fn from(fault: LoadFault) -> Failure {
+        Failure::NotLoaded(fault)
+    }
+}
+
+/// The answer to a call, or why it is not done.
+pub type Answer<T> = Result<Reply<T>, Failure>;

@@ -6,6 +6,7 @@ ghost use Rattle.runs.specs.Calls.{MakesCall, Shown};
 use crate::call::{Answer, Call, Reply};
 use grid::grid::Grid;
 use layouts::layout::Layout;
+use plan::load::load;
 use search::measure::Measure;
 
 // Makes a call on a grid, with these slots lent, and scratch for a seek.
@@ -41,5 +42,9 @@ pub(crate) fn make<L: Layout, T: Copy, M: Measure>(
             Ok(Reply::Done)
         }
         Call::Step(hop) => Ok(Reply::Stepped(grid.step(slots, *hop)?)),
+        Call::Load(plan) => {
+            let count = load(grid, plan.as_slice())?;
+            Ok(Reply::Loaded(count))
+        }
     }
 }

@@ -22,7 +22,7 @@ pub struct Run<L: Layout, T> {
 
 /// Makes calls one after another on a grid that starts blank, with these slots lent, enough or not, and records each answer. Seeks
 /// are lent the scratch; what is in it afterwards is left open, and so is which of equally good routes a seek takes. What is lent beyond
-/// the scratch of the grid is not touched.
+/// the scratch of the grid is not touched. The load of a plan is as many openings as it opens records, also where a fault is behind them.
 ///
 /// The contract is what this project is for: whatever the calls, everything let in comes out, in order, a step is possible
 /// exactly while something is on the grid, and the count of steps is known ahead.

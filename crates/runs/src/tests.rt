@@ -1,12 +1,13 @@
 // Streams 5 and 63 on a 3 × 3 mesh under the rule XY, with three lanes to a link and two places to a lane: 144 slots.
 // Stream 5 goes over FIRST, SECOND and LAST; stream 63 joins it at SECOND. Answers and slots are worked out by hand.
-use crate::call::{Answer, Call, Reply};
+use crate::call::{Answer, Call, Failure, Reply};
 use crate::replay::{Run, replay};
 use grid::make::MakeError;
 use grid::step::Step;
 use lanes::strip::Strip;
 use layouts::mesh::Mesh;
 use layouts::turn_rule::TurnRule;
+use plan::fault::{InRecord, LoadFault};
 use refusals::refusal::Refusal;
 use routes::declined::Declined;
 use routes::hop::Hop;
@@ -53,7 +54,7 @@ fn out(stream: u16, item: u32) -> Answer<u32> {
 }
 
 fn refused(refusal: Refusal) -> Answer<u32> {
-    Err(Declined { refusal, hop: None })
+    Err(refusal.into())
 }
 
 // Scratch for a seek on 24 links with three lanes.
@@ -165,6 +166,7 @@ fn strip_call(call: Call<u32, Measures>) -> Call<Strip, Measures> {
         Call::Close(stream) => Call::Close(stream),
         Call::Send(stream, word) => Call::Send(stream, strip(word)),
         Call::Step(hop) => Call::Step(hop),
+        Call::Load(plan) => Call::Load(plan),
     }
 }
 
@@ -174,6 +176,7 @@ fn strip_answer(answer: Answer<u32>) -> Answer<Strip> {
         Reply::Found(hops) => Reply::Found(hops),
         Reply::Stepped(Step::Moved(stream)) => Reply::Stepped(Step::Moved(stream)),
         Reply::Stepped(Step::Out(stream, word)) => Reply::Stepped(Step::Out(stream, strip(word))),
+        Reply::Loaded(records) => Reply::Loaded(records),
     })
 }
 
@@ -219,7 +222,7 @@ fn lamp_words(rt: HostRuntime) -> Result<(), Fail> {
     for (call, answer) in calls.iter().zip(&declined.answers) {
         let expected = match call {
             Call::Send(..) | Call::Step(_) => refused(Refusal::TooFewSlots),
-            Call::Open(..) | Call::Seek(..) | Call::Close(_) => Ok(Reply::Done),
+            _ => Ok(Reply::Done),
         };
         assert_eq!(rt; *answer, expected);
     }
@@ -367,5 +370,103 @@ fn seeks_by_two_measures(rt: HostRuntime) -> Result<(), Fail> {
     for (link, load) in [(0, 40), (13, 0), (12, 40), (2, 40)] {
         assert_eq!(rt; run.grid.link_load(link), Ok(load));
     }
+    Ok(())
+}
+
+// A plan for this mesh with one lane to a link, two places to a lane and some capacity. Stream 0 goes over links 0 and 13 with
+// demand 30, stream 1 over links 0, 1, 14 and 17 with demand 20.
+fn plan(heap: Global, capacity: u8) -> Result<Vec<u8>, Fail> {
+    Ok(vec![in heap;
+        1, 1, 3, 3, 1, 2, capacity, 2, 0, 0, 4, 30, 2, 0, 52, 1, 0, 8, 20, 4, 0, 4, 56, 68,
+    ]?)
+}
+
+// What these calls answer on a grid that such a plan fits.
+fn answers_on(
+    heap: Global,
+    capacity: u8,
+    calls: &[Call<u32, Measures>],
+) -> Result<Vec<Answer<u32>>, Fail> {
+    let mesh = Mesh::new(TurnRule::Xy, 3, 3)?;
+    let (mut values, mut marks) = scratch();
+    let mut slots = [9; 48];
+    let run = replay(
+        heap,
+        mesh,
+        1,
+        2,
+        u16::from(capacity),
+        &mut slots,
+        &mut values,
+        &mut marks,
+        calls,
+    )?;
+    Ok(run.answers)
+}
+
+// The step of the lane of a link.
+fn step(link: u16) -> Call<u32, Measures> {
+    Call::Step(Hop { link, lane: 0 })
+}
+
+// A stream of a plan takes an item, which comes out.
+#[test]
+fn loaded_plan(rt: HostRuntime) -> Result<(), Fail> {
+    let heap = rt.alloc();
+    let plan = plan(heap, 100)?;
+    let calls = vec![in heap;
+        Call::Load(plan),
+        Call::Send(1, 7),
+        step(0),
+        step(1),
+        step(14),
+        step(17),
+    ]?;
+    let expected = [
+        Ok(Reply::Loaded(2)),
+        Ok(Reply::Done),
+        moved(1),
+        moved(1),
+        moved(1),
+        out(1, 7),
+    ];
+    assert_eq!(rt;
+        answers_on(heap, 100, calls.as_slice())?.as_slice(),
+        expected.as_slice()
+    );
+    Ok(())
+}
+
+// With less capacity the second stream is declined, and the first is open.
+#[test]
+fn loaded_in_part(rt: HostRuntime) -> Result<(), Fail> {
+    let heap = rt.alloc();
+    let plan = plan(heap, 40)?;
+    let calls = vec![in heap;
+        Call::Load(plan),
+        Call::Send(1, 8),
+        Call::Send(0, 7),
+        step(0),
+        step(13),
+    ]?;
+    let declined = Declined {
+        refusal: Refusal::OverCapacity,
+        hop: Some(0),
+    };
+    let fault = LoadFault::Grid(InRecord {
+        number: 1,
+        fault: declined,
+    });
+    let expected = [
+        Err(Failure::NotLoaded(fault)),
+        refused(Refusal::NotOpen),
+        Ok(Reply::Done),
+        moved(0),
+        out(0, 7),
+    ];
+    assert_eq!(rt;
+        answers_on(heap, 40, calls.as_slice())?.as_slice(),
+        expected.as_slice()
+    );
     Ok(())
 }

@@ -1,8 +1,8 @@
-use Rattle.std.proofs.Common.{Some, None, Ok, refl, vec_items}
+use Rattle.std.proofs.Common.{Some, None, Ok, Err, refl, vec_items}
 use Rattle.std.proofs.lemmas.Result.{err_from_is_err_and}
 use Rattle.routes.specs.Checks.{no_hop}
 use Rattle.model.specs.Calls.{declined, done}
-use Rattle.runs.proofs.Edited.{opened, closed}
+use Rattle.runs.proofs.Edited.{opened, closed, loaded, shown_loaded}
 use Rattle.runs.proofs.Showing.{shown_sent, shown_stepped}
 use Rattle.runs.proofs.make.make.Goals as goal
 
@@ -60,3 +60,27 @@ returns-in_ok-step-in-Step-clause-shown g c =
     let grid = c.args.grid.now in
     shown_stepped (g.L.Layout.meaning grid.layout) grid.tables c.step.new.self.tables grid.fits c.args.slots.now c.step.new.slots c.in-Step.hop.link c.in-Step.hop.lane
     c.in_ok-step-in-Step.field-0 c.in_ok-step-in-Step.ensures.made
+
+pub returns-in_ok-count-in-Load-clause-made : goal.returns-in_ok-count-in-Load-clause-made
+returns-in_ok-count-in-Load-clause-made g c =
+    let loads = rw c.as_slice-in-Load.ensures.value at c.in_ok-count-in-Load.ensures.made in
+    rw c.in-Load.is (loaded _ c.args.grid.now.tables c.load.new.grid.tables c.args.slots.now (vec_items c.in-Load.plan) (Ok c.in_ok-count-in-Load.count) loads)
+
+pub returns-in_ok-count-in-Load-clause-shown : goal.returns-in_ok-count-in-Load-clause-shown
+returns-in_ok-count-in-Load-clause-shown g c =
+    let grid = c.args.grid.now in
+    shown_loaded (g.L.Layout.meaning grid.layout) grid.tables c.load.new.grid.tables c.args.slots.now c.as_slice-in-Load.result.now (Ok c.in_ok-count-in-Load.count)
+    c.in_ok-count-in-Load.ensures.made c.requires
+
+pub returns-in_err-count-in-Load-clause-made : goal.returns-in_err-count-in-Load-clause-made
+returns-in_err-count-in-Load-clause-made g c =
+    let e = err_from_is_err_and c.from_residual-in_err-count-in-Load.result c.from_residual-in_err-count-in-Load.ensures.1 in
+    let loads = rw c.as_slice-in-Load.ensures.value at c.in_err-count-in-Load.ensures.made in
+    rw (c.in-Load.is, e.1, e.2)
+    (loaded _ c.args.grid.now.tables c.load.new.grid.tables c.args.slots.now (vec_items c.in-Load.plan) (Err c.in_err-count-in-Load.field-0.0) loads)
+
+pub returns-in_err-count-in-Load-clause-shown : goal.returns-in_err-count-in-Load-clause-shown
+returns-in_err-count-in-Load-clause-shown g c =
+    let grid = c.args.grid.now in
+    shown_loaded (g.L.Layout.meaning grid.layout) grid.tables c.load.new.grid.tables c.args.slots.now c.as_slice-in-Load.result.now (Err c.in_err-count-in-Load.field-0.0)
+    c.in_err-count-in-Load.ensures.made c.requires

@@ -1,5 +1,5 @@
 use Rattle.std.proofs.Common.{vec_items, ap, ◌∙◌, refl, arith}
-use Rattle.runs.proofs.Replaying.{made_none, made_more, all_made}
+use Rattle.runs.proofs.Replaying.{left_by, made_none, made_more, all_made}
 use Rattle.runs.proofs.replay.replay.Goals as goal
 
 pub loop-k-init : goal.loop-k-init
@@ -44,5 +44,5 @@ returns-clause-run g c =
       has_capacity = made.left.has_capacity;
       history = made.history;
       run = all_made _ c.args.slots.now c.args.calls.now (vec_items c.loop-k.answers) c.loop-k.grid.tables c.loop-k.k c.loop-k.slots c.loop-k-test.false made;
-      leaves = made.left.leaves;
+      leaves = left_by _ made.history c.args.slots.now c.loop-k.slots c.loop-k.grid.tables made.left made.shown;
     }

@@ -2,3 +2,4 @@ pub mod Loads
 pub mod Plans
 pub mod Buffers
 pub mod Writes
+pub mod Lines

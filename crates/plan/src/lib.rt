@@ -3,6 +3,7 @@
 
 mod buffer;
 pub mod fault;
+pub mod line;
 mod listed;
 pub mod load;
 mod put;

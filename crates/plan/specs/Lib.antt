@@ -3,3 +3,4 @@ pub mod Plans
 pub mod Buffers
 pub mod Writes
 pub mod Lines
+pub mod Summaries

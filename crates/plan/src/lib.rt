@@ -7,4 +7,5 @@ pub mod line;
 mod listed;
 pub mod load;
 mod put;
+pub mod summary;
 pub mod write;

@@ -3,3 +3,5 @@ mod Loading
 pub mod Listing
 mod Putting
 pub mod Lengths
+mod Accepted
+mod Checking

@@ -4,3 +4,4 @@ pub mod Buffers
 pub mod Writes
 pub mod Lines
 pub mod Summaries
+pub mod Verdicts

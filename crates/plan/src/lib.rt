@@ -2,6 +2,7 @@
 #![tactic(auto)]
 
 mod buffer;
+pub mod check;
 pub mod fault;
 pub mod line;
 mod listed;

@@ -5,3 +5,5 @@ mod Putting
 pub mod Lengths
 mod Writing
 mod Reloading
+mod Accepted
+mod Checking

@@ -2,8 +2,11 @@
 #![tactic(auto)]
 
 mod buffer;
+pub mod check;
 pub mod fault;
+pub mod line;
 mod listed;
 pub mod load;
 mod put;
+pub mod summary;
 pub mod write;

@@ -1,6 +1,6 @@
 -- Worked examples. A mesh is 2 × 2 or 3 × 3, under the rule XY if no other one is told.
 use Rattle.std.specs.Prelude.{◌≡◌, ℕ, List, [], ◌∷◌, Some, None, Ok, Err, Option, Result}
-use Rattle.refusals.specs.declared.refusal.Refusal.TheVariants.{NoRoute}
+use Rattle.refusals.specs.declared.refusal.Refusal.TheVariants.{NoRoute, OverCapacity}
 use Rattle.refusals.specs.Numbers.{refusal_number}
 use Rattle.layouts.specs.Layout.{Meaning}
 use Rattle.layouts.specs.Mesh.{mesh_meaning}
@@ -18,6 +18,11 @@ use Rattle.model.specs.Sums.{hops_ahead}
 use Rattle.model.specs.Calls.{Call, opens, closes, sends, steps, Answer, declined, done, moved, out}
 use Rattle.model.specs.Layouts.{on_layout}
 use Rattle.model.specs.Runs.{History, start, ◌▸◌, after, answer_to, handed_out_since}
+use Rattle.codec.specs.declared.number.ByteFault.TheVariants.{Form}
+use Rattle.codec.specs.Numbers.{number_bytes, number_at}
+use Rattle.plan.specs.declared.fault.LoadFault.TheVariants as fault
+use Rattle.plan.specs.Lines.{byte_refusal}
+use Rattle.plan.specs.Verdicts.{verdict_of}
 use Rattle.search.specs.Scales.{Scale, total, peak}
 use Rattle.search.specs.Finds.{values_needed, marks_needed}
 use Rattle.search.specs.Seeks.{SeekFinds}
@@ -134,5 +139,26 @@ abbrev pub SharedSeeks : Type 0
 SharedSeeks =
     OnlyFinds total NegativeFirst 1 shared (to_middle 10) (Ok corner) × OnlyFinds peak NegativeFirst 1 shared (to_middle 10) (Ok (detour 0))
 
+-- Numbers of plans: two of one and of two bytes, the largest, one that is not written in the fewest bytes, and one that is too large.
+abbrev pub PlanNumbers : Type 0
+PlanNumbers =
+    (number_bytes 127 ≡ 127 ∷ [])
+    × (number_bytes 128 ≡ 128 ∷ (1 ∷ []))
+    × (number_bytes 65535 ≡ 255 ∷ (255 ∷ (3 ∷ [])))
+    × (number_at (128 ∷ (0 ∷ [])) 0 ≡ Err (Form 0))
+    × (number_at (128 ∷ (128 ∷ (4 ∷ []))) 0 ≡ Err (Form 0))
+    × (refusal_number (byte_refusal (Form 0)) ≡ 23)
+
+-- A plan of two streams on the 3 × 3 mesh under XY, one lane, depth 2, by the capacity of its links: from tile 0 to 4 for a demand of 30, and from
+-- tile 0 to 8 for one of 20, both by link 0.
+abbrev pub two_streams : ℕ → List ℕ
+two_streams capacity =
+    1 ∷ (1 ∷ (3 ∷ (3 ∷ (1 ∷ (2 ∷ (capacity ∷ (2 ∷ (0 ∷ (0 ∷ (4 ∷ (30 ∷ (2 ∷ (0 ∷ (52 ∷ (1 ∷ (0 ∷ (8 ∷ (20 ∷ (4 ∷ (0 ∷ (4 ∷ (56 ∷ (68 ∷ [])))))))))))))))))))))))
+
+abbrev pub PlanVerdicts : Type 0
+PlanVerdicts =
+    (verdict_of (two_streams 100) ≡ Ok (record { streams = 2; hops = 6; load = 50 }))
+    × (verdict_of (two_streams 40) ≡ Err (fault.Grid (record { number = 1; fault = record { refusal = OverCapacity; hop = Some 0 } })))
+
 abbrev pub WorkedExamples : Type 0
-WorkedExamples = SmallTurns × SmallRoutes × LoadedOpenings × ShortRun × LoadedSeeks × SharedSeeks
+WorkedExamples = SmallTurns × SmallRoutes × LoadedOpenings × ShortRun × LoadedSeeks × SharedSeeks × PlanNumbers × PlanVerdicts

@@ -3,3 +3,5 @@ pub mod Standing
 pub mod Sequenced
 pub mod Hops
 pub mod Entries
+pub mod Heading
+pub mod RecordBytes

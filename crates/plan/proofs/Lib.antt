@@ -4,3 +4,4 @@ pub mod Listing
 mod Putting
 pub mod Lengths
 mod Writing
+mod Rising

@@ -46,7 +46,7 @@ module _ (m : Meaning) (t t' : Tables) (n : ℕ) (q : Request) (hops : List Hop)
   unfolding open_refusal
   refused d edits = declined_by (outline t) (with_stream (outline t) n (Some (record { request = q; hops = hops }))) _ d edits.made.answer
 
-  outline_is : Edits m t (opens n q hops) done t' → outline t' ≡ with_stream (outline t) n (Some (record { request = q; hops = hops }))
+  pub outline_is : Edits m t (opens n q hops) done t' → outline t' ≡ with_stream (outline t) n (Some (record { request = q; hops = hops }))
   unfolding open_refusal
   outline_is edits =
       let none : open_refusal (setting m t (length (slots_alike t))) (outline t) n q hops ≡ None = opened edits in

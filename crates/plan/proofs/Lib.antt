@@ -5,3 +5,4 @@ mod Putting
 pub mod Lengths
 mod Writing
 mod Rising
+mod Rewriting

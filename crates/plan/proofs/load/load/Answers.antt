@@ -2,6 +2,7 @@ use Rattle.std.proofs.Common.{◌≡◌, ◌-◌, ◌+◌, refl, ap, ◌∙◌, 
 use Rattle.std.proofs.lemmas.Result.{err_from_is_err_and}
 use Rattle.plan.specs.Loads.{accepted_head}
 use Rattle.plan.proofs.Loading.{begun, cut_short, turned_away, let_on, trailing, finished}
+use Rattle.plan.proofs.Rewriting.{written_back}
 use Rattle.plan.proofs.load.load.Goals as goal
 
 pub loop-number-init : goal.loop-number-init
@@ -30,3 +31,7 @@ pub returns-clause-made : goal.returns-clause-made
 returns-clause-made g c =
     let last : c.from-count.result ≡ c.loop-number.number = omega arith in
     rw last (finished _ _ _ _ _ _ _ _ c.loop-number.invariant.1 (omega arith) c.if-place-plan.false)
+
+pub returns-clause-written_back : goal.returns-clause-written_back
+returns-clause-written_back g c =
+    written_back _ _ _ _ (λ k. omega (arith, c.type_inv.plan k)) _ (finished _ _ _ _ _ _ _ _ c.loop-number.invariant.1 (omega arith) c.if-place-plan.false)

@@ -6,3 +6,4 @@ pub mod Lengths
 mod Writing
 mod Rising
 mod Rewriting
+mod LoadedLengths

@@ -1,10 +1,11 @@
 -- A head that is read stands at the front of its plan as it is written.
-use Rattle.std.proofs.Common.{◌≡◌, ℕ, List, [], ◌∷◌, Ok, Err, Result, refl, subst}
+use Rattle.std.proofs.Common.{◌≡◌, ℕ, List, [], ◌∷◌, Ok, Result, refl, subst}
 use Rattle.codec.specs.declared.head.HeadNumbers.{HeadNumbers}
 use Rattle.codec.specs.Reads.{then}
 use Rattle.codec.specs.Numbers.{number_at}
 use Rattle.codec.specs.Heads.{head_at}
 use Rattle.codec.specs.Records.{sequence, numbers_at}
+use Rattle.codec.proofs.Sequences.{then_ok}
 use Rattle.codec.proofs.Standing.{Bytes}
 use Rattle.codec.proofs.Sequenced.{StandAt, numbers_stand}
 
@@ -24,8 +25,7 @@ same_ok x y is = cc
 
 -- what follows from a value and from what is read after it, where something is
 pub from_then : {A B E C : Type 0} (r : Result A E) (f : A → Result B E) (y : B) → then r f ≡ Ok y → ((x : A) → r ≡ Ok x → f x ≡ Ok y → C) → C
-from_then (Ok x) f y is follows = follows x refl is
-from_then (Err e) f y is follows = cc
+from_then r f y is follows = let first = then_ok r f y is in follows first.0 first.1 first.2
 
 head_read : (plan : List ℕ) (h : HeadNumbers) → head_at plan ≡ Ok h → HeadRead plan h
 head_read plan h is =

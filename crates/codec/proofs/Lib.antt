@@ -4,3 +4,5 @@ pub mod Sequenced
 pub mod Hops
 pub mod Entries
 pub mod Reread
+pub mod Heading
+pub mod RecordBytes

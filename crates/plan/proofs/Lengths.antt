@@ -6,6 +6,8 @@ use Rattle.layouts.specs.Layout.{Meaning, Lawful}
 use Rattle.routes.specs.declared.hop.Hop.{Hop}
 use Rattle.routes.specs.Routes.{OpenStream, hop_at}
 use Rattle.routes.specs.Loads.{stream_count}
+use Rattle.routes.specs.Checks.{terms_on}
+use Rattle.routes.specs.Acceptable.{Acceptable}
 use Rattle.grid.specs.Sound.{Sound}
 use Rattle.codec.specs.declared.head.GridSizes.{GridSizes}
 use Rattle.codec.specs.declared.head.Head.{Head}
@@ -76,18 +78,20 @@ module _ (streams : ℕ → Option OpenStream) (small : (n : ℕ) (s : OpenStrea
   unfolding open_streams
   records_short = listed_short 0 stream_count (omega arith)
 
--- the streams of a grid have small numbers
-pub small_stream : (m : Meaning) → Lawful m → (lanes capacity : ℕ) → lanes ≤ 4 → (streams : ℕ → Option OpenStream) → Sound m lanes capacity streams
-    → (n : ℕ) (s : OpenStream) → n < stream_count → streams n ≡ Some s → SmallStream n s
-small_stream m law lanes capacity few streams sound n s there is =
-    let route = sound.routes n s is in
-    record {
-      number = there;
-      source = omega (arith, route.source, law.sized.most_tiles);
-      target = omega (arith, route.target, law.sized.most_tiles);
-      count = route.count.1;
-      hops = λ k less. let on = route.on_grid k less in omega (arith, on.0, on.1, law.sized.most_links);
-    }
+-- a stream on an acceptable route has small numbers, and so have the streams of a grid
+module _ (m : Meaning) (law : Lawful m) (lanes capacity : ℕ) (few : lanes ≤ 4) where
+  pub small_route : (streams : ℕ → Option OpenStream) (n : ℕ) (s : OpenStream) → n < stream_count → Acceptable (terms_on m lanes capacity streams) s.request s.hops
+      → SmallStream n s
+  small_route streams n s there route = record {
+    number = there;
+    source = omega (arith, route.source, law.sized.most_tiles);
+    target = omega (arith, route.target, law.sized.most_tiles);
+    count = route.count.1;
+    hops = λ k less. let on = route.on_grid k less in omega (arith, on.0, on.1, law.sized.most_links);
+  }
+
+  pub small_stream : (streams : ℕ → Option OpenStream) → Sound m lanes capacity streams → (n : ℕ) (s : OpenStream) → n < stream_count → streams n ≡ Some s → SmallStream n s
+  small_stream streams sound n s there is = small_route (λ _. None) n s there (sound.routes n s is)
 
 -- no stream asks for more than a link can bear
 pub demand_borne : (m : Meaning) (lanes capacity : ℕ) (streams : ℕ → Option OpenStream) → Sound m lanes capacity streams → (n : ℕ) (s : OpenStream) → streams n ≡ Some s

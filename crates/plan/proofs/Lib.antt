@@ -7,3 +7,6 @@ mod Writing
 mod Reloading
 mod Accepted
 mod Checking
+mod Rising
+mod Rewriting
+mod LoadedLengths

@@ -1,9 +1,10 @@
 // Loading a plan on a grid.
-ghost use Rattle.std.specs.Prelude.{◌≡◌, ◌≤◌, length, take, MatchResult};
+ghost use Rattle.std.specs.Prelude.{◌≡◌, ◌≤◌, length, take, IfOk, MatchResult};
 ghost use Rattle.model.specs.Calls.{declined, done};
 ghost use Rattle.grid.specs.Makes.{Edits};
 ghost use Rattle.codec.specs.Records.{behind, hops_read, hops_in, record_at, entry_of, ReadsRecord};
 ghost use Rattle.plan.specs.Loads.{accepted_head, sizes_of, opening_of, Loads};
+ghost use Rattle.plan.specs.RoundTrips.{WrittenBack};
 
 use crate::fault::{InRecord, LoadFault, PlanFault};
 use codec::head::{GridSizes, HeadNumbers, judge_head, read_head};
@@ -92,10 +93,15 @@ fn open<L: Layout>(
 /// Loads a plan: judges its head, and opens the streams of its records one after another as `open` does. Answers the count of records. The
 /// records ahead of a fault stay open.
 ///
+/// A plan that loads on a grid with no stream, its streams in rising number, is what `write` writes then, byte for byte. No plan that loads is
+/// longer than 3530 bytes.
+///
 /// A fault tells whether the bytes, the plan or the grid is to blame, with the record where it is one, and the place: see `LoadFault`.
 pub fn load<L: Layout>(grid: &mut Grid<L>, plan: &[u8]) -> Result<usize, LoadFault>
     ensures made { Loads (L.meaning grid.old.layout) grid.old.tables plan.now result grid.new.tables }
     ensures layout { grid.new.layout ≡ grid.old.layout }
+    ensures written_back { IfOk result (λ _. WrittenBack (L.meaning grid.old.layout) grid.old.tables plan.now grid.new.tables) }
+    ensures short { IfOk result (λ _. length plan.now ≤ 3530) }
 {
     let head = accepted_head(plan, sizes_of(grid))?;
     let count = usize::from(head.count.value);

@@ -1,8 +1,12 @@
-use Rattle.std.proofs.Common.{◌≡◌, ◌-◌, ◌+◌, refl, ap, ◌∙◌, arith}
+use Rattle.std.proofs.Common.{◌≡◌, ◌-◌, ◌+◌, Ok, refl, sym, ap, ◌∙◌, arith}
 use Rattle.std.proofs.lemmas.Result.{err_from_is_err_and}
-use Rattle.plan.specs.Loads.{accepted_head}
+use Rattle.plan.specs.Loads.{accepted_head, Loads}
 use Rattle.plan.proofs.Loading.{begun, cut_short, turned_away, let_on, trailing, finished}
+use Rattle.plan.proofs.Rewriting.{loaded, written_back}
+use Rattle.plan.proofs.LoadedLengths.{loaded_short}
+use Rattle.plan.proofs.load.load.Given as given
 use Rattle.plan.proofs.load.load.Goals as goal
+use Rattle.plan.proofs.load.load.Goals.{Else-place-plan}
 
 pub loop-number-init : goal.loop-number-init
 loop-number-init g c = (refl, begun _ _ _ _ _ (c.in_ok-head.ensures ∙ ap (λ sizes. accepted_head sizes c.args.plan.now) c.sizes_of.ensures.value) c.from-count.ensures)
@@ -26,7 +30,21 @@ loop-number-preserved g c = (
 pub returns-then-place-plan-clause-made : goal.returns-then-place-plan-clause-made
 returns-then-place-plan-clause-made g c = rw c.into.ensures (trailing _ _ _ _ _ _ _ _ c.loop-number.invariant.1 (omega arith) c.if-place-plan.true)
 
-pub returns-clause-made : goal.returns-clause-made
-returns-clause-made g c =
+-- loading has come to its end
+at_end : (g : given.Over) (c : Else-place-plan g)
+    → Loads (g.L.Layout.meaning c.args.grid.now.layout) c.args.grid.now.tables c.args.plan.now (Ok c.from-count.result) c.loop-number.grid.tables
+at_end g c =
     let last : c.from-count.result ≡ c.loop-number.number = omega arith in
     rw last (finished _ _ _ _ _ _ _ _ c.loop-number.invariant.1 (omega arith) c.if-place-plan.false)
+
+pub returns-clause-made : goal.returns-clause-made
+returns-clause-made g c = at_end g c
+
+pub returns-clause-written_back : goal.returns-clause-written_back
+returns-clause-written_back g c = written_back _ _ _ _ (λ k. omega (arith, c.type_inv.plan k)) _ (at_end g c)
+
+pub returns-clause-short : goal.returns-clause-short
+returns-clause-short g c =
+    let grid = c.args.grid.now in
+    loaded_short _ (g.met.L.Layout.lawful grid.layout) grid.tables grid.tables.lanes.size.wide.1 _ _
+    (loaded _ grid.tables _ (λ k. omega (arith, c.type_inv.plan k)) _ (sym (at_end g c).0))

@@ -20,6 +20,7 @@ use std::alloc::{AllocError, Global};
 pub const LIMIT: usize = 4096;
 
 // The bytes of a plan that are looked at.
+#[tactic(auto, using(std::proofs::lemmas::List::take_min))]
 fn first_bytes(plan: &[u8]) -> &[u8]
     ensures { result.now ≡ take 4096 plan.now }
 {

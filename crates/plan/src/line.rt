@@ -1,5 +1,5 @@
 // The line that tells a verdict.
-ghost use Rattle.std.specs.Prelude.{◌≡◌, ◌≤◌, ◌+◌, ◌++◌, length, Some};
+ghost use Rattle.std.specs.Prelude.{◌≡◌, ◌≤◌, ◌+◌, ◌++◌, length, Some, IsOk, IfOk};
 ghost use Rattle.plan.specs.Buffers.{fitted, Puts};
 ghost use Rattle.plan.specs.Lines.{byte_refusal, byte_place, layer_of, record_of, refusal_in, place_in, field_text, fault_text, summary_text, verdict_text, line_text};
 
@@ -22,8 +22,11 @@ pub struct Summary {
 /// What a plan comes to on a blank grid: what the grid bears once it is loaded, or the fault.
 pub type Verdict = Result<Summary, LoadFault>;
 
-// The text of a line. It has at most 90 bytes: `fault`, four numbers of at most 20 digits with a blank ahead of each, and a line feed.
-type Text = ArrayString<90>;
+/// The most bytes that a line has: `fault`, four numbers of at most 20 digits with a blank ahead of each, and a line feed.
+pub const LONGEST_LINE: usize = 90;
+
+// The text of a line.
+type Text = ArrayString<LONGEST_LINE>;
 
 // Why no number can be read.
 fn byte_refusal(fault: ByteFault) -> Refusal
@@ -155,9 +158,11 @@ impl fmt::Display for Summary {
 /// Writes the line that tells a verdict at the front of a buffer, and tells the count of its bytes; what stands in the buffer behind the line is
 /// not touched.
 ///
-/// Refuses a buffer that is too short by `BufferTooShort`, and then writes nothing.
+/// Refuses a buffer that is too short by `BufferTooShort`, and then writes nothing. A buffer of `LONGEST_LINE` bytes is never too short.
 pub fn compose(verdict: &Verdict, buffer: &mut [u8]) -> Result<usize, Refusal>
-    ensures { Puts (fitted (length buffer.old) (line_text verdict.now)) buffer.old result buffer.new }
+    ensures made { Puts (fitted (length buffer.old) (line_text verdict.now)) buffer.old result buffer.new }
+    ensures short { IfOk result (λ count. count ≤ 90) }
+    ensures room { 90 ≤ length buffer.old → IsOk result }
 {
     let mut line = match verdict {
         Ok(summary) => summary.text(),

@@ -1,12 +1,13 @@
 // Verdicts on plans: the line that is told of each.
 use plan::check::check;
 use plan::line::compose;
+use std::alloc::Global;
 use std::process::Abort;
 use std::test::Fail;
 
 // The line of the verdict on a plan, without its line feed.
-fn verdict_is(rt: &HostRuntime, plan: &[u8], line: &str) -> Result<(), Fail> {
-    let verdict = check(rt.alloc(), plan)?;
+fn verdict_is(rt: &impl Abort, heap: Global, plan: &[u8], line: &str) -> Result<(), Fail> {
+    let verdict = check(heap, plan)?;
     let mut buffer = [0; 100];
     let size = compose(&verdict, &mut buffer)?;
     assert_eq!(rt;
@@ -45,7 +46,7 @@ fn heads(rt: HostRuntime) -> Result<(), Fail> {
         (&[1, 1, 3, 3, 2, 2, 100, 1], "fault 1 0 22 8"),
     ];
     for (plan, line) in cases {
-        verdict_is(&rt, plan, line)?;
+        verdict_is(&rt, rt.alloc(), plan, line)?;
     }
     Ok(())
 }
@@ -141,7 +142,7 @@ fn numbers(rt: HostRuntime) -> Result<(), Fail> {
         ),
     ];
     for (plan, line) in cases {
-        verdict_is(&rt, plan, line)?;
+        verdict_is(&rt, rt.alloc(), plan, line)?;
     }
     Ok(())
 }
@@ -265,7 +266,7 @@ fn records(rt: HostRuntime) -> Result<(), Fail> {
         ),
     ];
     for (plan, line) in cases {
-        verdict_is(&rt, plan, line)?;
+        verdict_is(&rt, rt.alloc(), plan, line)?;
     }
     Ok(())
 }
@@ -363,7 +364,7 @@ fn turns(rt: HostRuntime) -> Result<(), Fail> {
         ),
     ];
     for (plan, line) in cases {
-        verdict_is(&rt, plan, line)?;
+        verdict_is(&rt, rt.alloc(), plan, line)?;
     }
     Ok(())
 }
@@ -383,7 +384,7 @@ fn most_streams(rt: HostRuntime) -> Result<(), Fail> {
             plan.extend_from_slice(&[stream, 0, 32, 1, 24])?;
             plan.extend_from_slice(&ROUND)?;
         }
-        verdict_is(&rt, plan.as_slice(), line)?;
+        verdict_is(&rt, rt.alloc(), plan.as_slice(), line)?;
     }
     Ok(())
 }
@@ -392,8 +393,8 @@ fn most_streams(rt: HostRuntime) -> Result<(), Fail> {
 #[test]
 fn long_inputs(rt: HostRuntime) -> Result<(), Fail> {
     let mut plan = vec![in rt.alloc(); 0; 5000]?;
-    verdict_is(&rt, plan.as_slice(), "fault 2 - 24 0")?;
+    verdict_is(&rt, rt.alloc(), plan.as_slice(), "fault 2 - 24 0")?;
     plan[..8].copy_from_slice(&[1, 1, 3, 3, 1, 2, 100, 0]);
-    verdict_is(&rt, plan.as_slice(), "fault 2 - 25 8")?;
-    verdict_is(&rt, &plan[..8], "ok 0 0 0")
+    verdict_is(&rt, rt.alloc(), plan.as_slice(), "fault 2 - 25 8")?;
+    verdict_is(&rt, rt.alloc(), &plan[..8], "ok 0 0 0")
 }

@@ -4,7 +4,8 @@ use Rattle.std.proofs.Common.{◌≡◌, ℕ, List, length, map, Ok, refl, sym, 
 use Rattle.routes.specs.declared.hop.Hop.{Hop}
 use Rattle.codec.specs.declared.number.Number.{Number}
 use Rattle.codec.specs.Numbers.{number_at}
-use Rattle.codec.specs.Records.{Entry, Sequence, sequence, numbers_at, behind, hops_read, hop_of, hops_in, record_at}
+use Rattle.codec.specs.Sequences.{Sequence, sequence, numbers_at, behind}
+use Rattle.codec.specs.Records.{Entry, hops_read, hop_of, hops_in, record_at}
 use Rattle.codec.proofs.Standing.{Bytes}
 use Rattle.codec.proofs.Hops.{read_alone}
 use Rattle.codec.proofs.Sequences.{numbers_behind}

@@ -1,10 +1,10 @@
 -- A head that is read stands at the front of its plan as it is written.
-use Rattle.std.proofs.Common.{◌≡◌, ℕ, List, [], ◌∷◌, Ok, Result, refl, subst}
+use Rattle.std.proofs.Common.{◌≡◌, ℕ, List, Ok, Result, refl, subst}
 use Rattle.codec.specs.declared.head.HeadNumbers.{HeadNumbers}
 use Rattle.codec.specs.Reads.{then}
 use Rattle.codec.specs.Numbers.{number_at}
-use Rattle.codec.specs.Heads.{head_at}
-use Rattle.codec.specs.Records.{sequence, numbers_at}
+use Rattle.codec.specs.Heads.{head_numbers, head_at, values_of}
+use Rattle.codec.specs.Sequences.{sequence, numbers_at}
 use Rattle.codec.proofs.Sequences.{then_ok}
 use Rattle.codec.proofs.Standing.{Bytes}
 use Rattle.codec.proofs.Sequenced.{StandAt, numbers_stand}
@@ -40,15 +40,9 @@ head_read plan h is =
     subst (HeadRead plan) (same_ok _ h from_count)
     (record { version = a; rule = b; width = c; height = d; lanes = e; depth = f; capacity = g; count = k })))))))))
 
--- the numbers of a head, in their order
-abbrev pub head_values : HeadNumbers → List ℕ
-head_values h =
-    h.version.value
-    ∷ (h.rule.value ∷ (h.width.value ∷ (h.height.value ∷ (h.lanes.value ∷ (h.depth.value ∷ (h.capacity.value ∷ (h.count.value ∷ [])))))))
-
-numbers_of_head : (plan : List ℕ) (h : HeadNumbers) → HeadRead plan h → numbers_at plan 0 8 ≡ Ok (sequence (head_values h) h.count.next)
-unfolding numbers_at
+numbers_of_head : (plan : List ℕ) (h : HeadNumbers) → HeadRead plan h → numbers_at plan 0 8 ≡ Ok (sequence (head_numbers (values_of h) h.count.value) h.count.next)
+unfolding numbers_at head_numbers
 numbers_of_head plan h read = rw (read.version, read.rule, read.width, read.height, read.lanes, read.depth, read.capacity, read.count) refl
 
-pub head_stands : (plan : List ℕ) (h : HeadNumbers) → Bytes plan → head_at plan ≡ Ok h → StandAt plan 0 (sequence (head_values h) h.count.next)
+pub head_stands : (plan : List ℕ) (h : HeadNumbers) → Bytes plan → head_at plan ≡ Ok h → StandAt plan 0 (sequence (head_numbers (values_of h) h.count.value) h.count.next)
 head_stands plan h all is = numbers_stand plan all 8 0 _ (numbers_of_head plan h (head_read plan h is))

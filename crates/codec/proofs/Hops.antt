@@ -3,7 +3,8 @@ use Rattle.std.proofs.Common.{◌≡◌, ℕ, ◌-◌, List, length, map, Ok, ap
 use Rattle.std.specs.Prelude.{slice_range}
 use Rattle.std.proofs.Math.Seq.{take-append_seam}
 use Rattle.codec.specs.Reads.{then}
-use Rattle.codec.specs.Records.{Sequence, sequence, numbers_at, behind, numbers_bytes, values_in, hop_of, hops_in}
+use Rattle.codec.specs.Sequences.{Sequence, sequence, numbers_at, behind, numbers_bytes, values_in}
+use Rattle.codec.specs.Records.{hop_of, hops_in}
 use Rattle.codec.proofs.Standing.{Bytes}
 use Rattle.codec.proofs.Sequenced.{StandAt, numbers_stand, numbers_count, numbers_read}
 

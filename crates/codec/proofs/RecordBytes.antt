@@ -1,12 +1,16 @@
 -- A record that is read stands in its plan as it is written.
-use Rattle.std.proofs.Common.{◌≡◌, ℕ, suc, ◌*◌, ◌+◌, ◌/◌, ◌%◌, List, [], ◌∷◌, ◌++◌, length, map, Ok, refl, ap, ◌∙◌, subst, arith}
+use Rattle.std.proofs.Common.{◌≡◌, ℕ, ◌≤◌, suc, ◌*◌, ◌+◌, ◌/◌, ◌%◌, List, [], ◌∷◌, ◌++◌, length, map, Ok, refl, ap, ◌∙◌, subst, arith}
+use Rattle.std.specs.Prelude.{slice_range}
+use Rattle.std.proofs.lemmas.Bool.Decides.{nat_tests}
 use Rattle.std.proofs.lemmas.List.{length-map}
 use Rattle.codec.specs.declared.number.Number.{Number}
 use Rattle.codec.specs.Numbers.{number_at}
-use Rattle.codec.specs.Records.{Entry, Sequence, sequence, numbers_at, hops_read, hop_number, hop_of, record_at}
+use Rattle.codec.specs.Sequences.{Sequence, sequence, numbers_at, numbers_bytes}
+use Rattle.codec.specs.Records.{Entry, hops_read, hop_number, hop_of, record_numbers, record_at}
 use Rattle.codec.proofs.Standing.{Bytes}
 use Rattle.codec.proofs.Sequenced.{StandAt, numbers_stand, numbers_count}
 use Rattle.codec.proofs.Entries.{entry}
+use Rattle.codec.proofs.Hops.{part_bytes}
 use Rattle.codec.proofs.Heading.{same_ok, from_then}
 
 -- the numbers of a record ahead of its hops
@@ -50,13 +54,18 @@ hops_counted plan start e is =
     let all = numbers_count plan _ start _ read.numbers in
     omega (arith, all, ap length read.are, length-map read.hops.values hop_of)
 
--- the numbers of a record whose hops are all read
-abbrev pub record_values : Entry → List ℕ
-record_values e = e.stream ∷ (e.request.source ∷ (e.request.target ∷ (e.request.demand ∷ (length e.hops ∷ map hop_number e.hops))))
-
 pub record_stands : (plan : List ℕ) (start : ℕ) (e : Entry) → Bytes plan → record_at plan start ≡ Ok e → length e.hops ≡ e.count
-    → StandAt plan start (sequence (record_values e) e.next)
+    → StandAt plan start (sequence (record_numbers e.stream e.request e.hops) e.next)
+unfolding record_numbers
 record_stands plan start e all is whole =
     let read = record_read plan start e is in
     let hops : map hop_number e.hops ≡ read.hops.values = ap (map hop_number) read.are ∙ hops_numbered read.hops.values in
     rw (whole, hops) (numbers_stand plan all _ start _ read.numbers)
+
+-- so does one whose hops are counted right, told by the part of the plan that it takes
+pub record_part : (plan : List ℕ) (start : ℕ) (e : Entry) → Bytes plan → record_at plan start ≡ Ok e → e.count ≤ 24
+    → slice_range plan start e.next ≡ numbers_bytes (record_numbers e.stream e.request e.hops)
+record_part plan start e all is few =
+    let counted = hops_counted plan start e is in
+    let whole : length e.hops ≡ e.count = grind (arith, nat_tests, counted) in
+    part_bytes plan start _ (record_stands plan start e all is whole)

@@ -9,8 +9,9 @@ use Rattle.codec.specs.declared.head.Head.{Head}
 use Rattle.codec.specs.declared.head.HeadNumbers.{HeadNumbers}
 use Rattle.codec.specs.declared.number.Number.{Number}
 use Rattle.codec.specs.Numbers.{number_at, number_bytes}
-use Rattle.codec.specs.Heads.{head_at, values_of}
-use Rattle.codec.specs.Records.{Entry, sequence, numbers_at, numbers_bytes, hops_read, hop_number, hop_of, record_at}
+use Rattle.codec.specs.Heads.{head_numbers, head_at, values_of}
+use Rattle.codec.specs.Sequences.{sequence, numbers_at, numbers_bytes}
+use Rattle.codec.specs.Records.{Entry, hops_read, hop_number, hop_of, record_numbers, record_at}
 use Rattle.codec.proofs.Standing.{written_read}
 use Rattle.codec.proofs.Sequenced.{Small, behind_bytes, numbers_read}
 use Rattle.codec.proofs.Entries.{with_hops, entry}
@@ -36,13 +37,6 @@ first_reread {plan} {place} {n} {ns} {rest} ahead small =
       ahead = record { bytes = behind_bytes plan place (number_bytes n) (numbers_bytes ns ++ rest) stands };
     }
 
--- the numbers of a head, and those of a record
-abbrev pub in_head : Head → ℕ → List ℕ
-in_head h count = h.version ∷ (h.rule ∷ (h.width ∷ (h.height ∷ (h.lanes ∷ (h.depth ∷ (h.capacity ∷ (count ∷ [])))))))
-
-abbrev pub in_record : ℕ → Request → List Hop → List ℕ
-in_record stream q hops = stream ∷ (q.source ∷ (q.target ∷ (q.demand ∷ (length hops ∷ map hop_number hops))))
-
 pub record HeadReread (plan : List ℕ) (h : Head) (count : ℕ) (rest : List ℕ) : Type 0 where
   pub numbers : HeadNumbers
   pub is : head_at plan ≡ Ok numbers
@@ -50,13 +44,14 @@ pub record HeadReread (plan : List ℕ) (h : Head) (count : ℕ) (rest : List �
   pub count_is : numbers.count.value ≡ count
   pub rest_is : drop numbers.count.next plan ≡ rest
 
-head_read : (plan : List ℕ) (version rule width height lanes depth capacity count : Number) → number_at plan 0 ≡ Ok version → number_at plan version.next ≡ Ok rule
+pub head_in_turn : (plan : List ℕ) (version rule width height lanes depth capacity count : Number) → number_at plan 0 ≡ Ok version → number_at plan version.next ≡ Ok rule
     → number_at plan rule.next ≡ Ok width → number_at plan width.next ≡ Ok height → number_at plan height.next ≡ Ok lanes → number_at plan lanes.next ≡ Ok depth
     → number_at plan depth.next ≡ Ok capacity → number_at plan capacity.next ≡ Ok count
     → head_at plan ≡ Ok (record { version = version; rule = rule; width = width; height = height; lanes = lanes; depth = depth; capacity = capacity; count = count })
-head_read plan version rule width height lanes depth capacity count a b c d e f g h = rw (a, b, c, d, e, f, g, h) refl
+head_in_turn plan version rule width height lanes depth capacity count a b c d e f g h = rw (a, b, c, d, e, f, g, h) refl
 
-pub head_reread : {plan : List ℕ} {h : Head} {count : ℕ} {rest : List ℕ} → Small (in_head h count) → Ahead plan 0 (in_head h count) rest → HeadReread plan h count rest
+pub head_reread : {plan : List ℕ} {h : Head} {count : ℕ} {rest : List ℕ} → Small (head_numbers h count) → Ahead plan 0 (head_numbers h count) rest → HeadReread plan h count rest
+unfolding head_numbers
 head_reread {plan} {h} {count} {rest} small stands =
     let version = first_reread stands small.0 in
     let rule = first_reread version.ahead small.1.0 in
@@ -77,7 +72,7 @@ head_reread {plan} {h} {count} {rest} small stands =
         capacity = capacity.number;
         count = streams.number;
       };
-      is = head_read plan version.number rule.number width.number height.number lanes.number depth.number capacity.number streams.number
+      is = head_in_turn plan version.number rule.number width.number height.number lanes.number depth.number capacity.number streams.number
           version.is rule.is width.is height.is lanes.is depth.is capacity.is streams.is;
       values = rw (version.value, rule.value, width.value, height.value, lanes.value, depth.value, capacity.value) refl;
       count_is = streams.value;
@@ -102,8 +97,9 @@ pub record RecordReread (plan : List ℕ) (start stream : ℕ) (q : Request) (ho
   pub rest_is : drop entry.next plan ≡ rest
 
 pub record_reread : {plan : List ℕ} {start stream : ℕ} {q : Request} {hops : List Hop} {rest : List ℕ} → length hops ≤ 24
-    → ((k : ℕ) → k < length hops → (hop_at hops k).lane < 4) → Small (in_record stream q hops) → Ahead plan start (in_record stream q hops) rest
+    → ((k : ℕ) → k < length hops → (hop_at hops k).lane < 4) → Small (record_numbers stream q hops) → Ahead plan start (record_numbers stream q hops) rest
     → RecordReread plan start stream q hops rest
+unfolding record_numbers
 record_reread {plan} {start} {stream} {q} {hops} {rest} few lanes small stands =
     let number = first_reread stands small.0 in
     let source = first_reread number.ahead small.1.0 in

@@ -4,7 +4,7 @@ use Rattle.std.proofs.Math.Seq.{drop-append_seam}
 use Rattle.std.proofs.lemmas.List.{drop-drop, get_or-drop}
 use Rattle.codec.specs.declared.number.Number.{Number}
 use Rattle.codec.specs.Numbers.{number_at, number_bytes}
-use Rattle.codec.specs.Records.{Sequence, sequence, numbers_at, numbers_bytes}
+use Rattle.codec.specs.Sequences.{Sequence, sequence, numbers_at, numbers_bytes}
 use Rattle.codec.proofs.Sequences.{then_ok}
 use Rattle.codec.proofs.Standing.{Bytes, in_front, written_read}
 

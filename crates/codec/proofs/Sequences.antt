@@ -4,7 +4,7 @@ use Rattle.codec.specs.declared.number.ByteFault.{ByteFault}
 use Rattle.codec.specs.declared.number.Number.{Number}
 use Rattle.codec.specs.Reads.{then}
 use Rattle.codec.specs.Numbers.{number_at}
-use Rattle.codec.specs.Records.{Sequence, sequence, numbers_at, behind, values_in}
+use Rattle.codec.specs.Sequences.{Sequence, sequence, numbers_at, behind, values_in}
 
 -- what is read after a value, where something is
 pub then_ok : {A B E : Type 0} (r : Result A E) (f : A → Result B E) (y : B) → then r f ≡ Ok y → (x : A) × (r ≡ Ok x) × (f x ≡ Ok y)

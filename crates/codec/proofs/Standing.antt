@@ -10,10 +10,7 @@ use Rattle.codec.specs.Numbers.{goes_on, value_of, front, is_whole, is_padded, n
 abbrev pub Bytes : List ℕ → Type 0
 Bytes bs = (k : ℕ) → get_or bs k 0 < 256
 
--- the groups of b and those of a number v behind it
-low_group : (b v : ℕ) → (b % 128 + 128 * v) % 128 ≡ b % 128
-low_group b v = omega arith
-
+-- the groups of a number behind its lowest one
 high_groups : (b v : ℕ) → (b % 128 + 128 * v) / 128 ≡ v
 high_groups b v = omega arith
 
@@ -77,7 +74,6 @@ pub record InFront (place : ℕ) (x : Number) (bs : List ℕ) : Type 0 where
   pub bytes : bs ≡ number_bytes x.value ++ rest
   pub next : x.next ≡ place + length (number_bytes x.value)
   pub small : x.value ≤ 65535
-  pub starts : x.place ≡ place
 
 -- what it takes to be read
 record IsRead (place : ℕ) (bs : List ℕ) (x : Number) : Type 0 where
@@ -86,16 +82,16 @@ record IsRead (place : ℕ) (bs : List ℕ) (x : Number) : Type 0 where
   small : value_of bs ≤ 65535
   is : x ≡ record { value = value_of bs; place = place; next = place + length bs }
 
-told : (whole wrong cut : Bool) (x y : Number) (place : ℕ)
+number_of_ok : (whole wrong cut : Bool) (x y : Number) (place : ℕ)
     → cond whole (cond wrong (Err (Form place)) (Ok y)) (cond cut (Err (Cut place)) (Err (Form place))) ≡ Ok x → (whole ≡ true) × (wrong ≡ false) × (x ≡ y)
-told true true cut x y place is = cc
-told true false cut x y place is = (refl, refl, cc)
-told false wrong true x y place is = cc
-told false wrong false x y place is = cc
+number_of_ok true true cut x y place is = cc
+number_of_ok true false cut x y place is = (refl, refl, cc)
+number_of_ok false wrong true x y place is = cc
+number_of_ok false wrong false x y place is = cc
 
 is_read : (place : ℕ) (bs : List ℕ) (x : Number) → number_in place bs ≡ Ok x → IsRead place bs x
 is_read place bs x is =
-    let told = told (is_whole bs) (is_padded bs || nat_lt 65535 (value_of bs)) (nat_lt (length bs) 3) x _ place is in
+    let told = number_of_ok (is_whole bs) (is_padded bs || nat_lt 65535 (value_of bs)) (nat_lt (length bs) 3) x _ place is in
     record { whole = told.0; full = grind (arith, nat_tests, told.1); small = grind (arith, nat_tests, told.1); is = told.2 }
 
 front_first : (n : ℕ) (bs : List ℕ) → (rest : List ℕ) × (bs ≡ front n bs ++ rest)
@@ -116,7 +112,6 @@ in_front place bs x all is =
       bytes = split.1 ∙ ap (λ f. f ++ split.0) (sym are);
       next = ap (λ y. y.next) read.is ∙ ap (λ f. place + length f) (sym are);
       small = rw read.is read.small;
-      starts = ap (λ y. y.place) read.is;
     }
 
 -- the groups of a number, so many that it has no more, are read as that number

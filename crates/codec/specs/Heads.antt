@@ -1,7 +1,9 @@
 -- The head of a plan: version, rule, width, height, lanes, depth, capacity, count of streams.
-use Rattle.std.specs.Prelude.{ℕ, Bool, true, not, ◌&&◌, List, [], ◌∷◌, Some, None, Ok, Err, Option, Result, find, ◌==◌, nat_le, nat_lt}
+use Rattle.std.specs.Prelude.{ℕ, Bool, true, cond, not, ◌&&◌, List, [], ◌∷◌, Some, None, Ok, Err, Option, Result, find, is_some, ◌==◌, nat_le, nat_lt}
 use Rattle.refusals.specs.declared.refusal.Refusal.{Refusal}
 use Rattle.refusals.specs.declared.refusal.Refusal.TheVariants.{MeshSize, GridSize, ZeroAmount, BadHead}
+use Rattle.layouts.specs.declared.turn_rule.TurnRule.{TurnRule}
+use Rattle.layouts.specs.declared.turn_rule.TurnRule.TheVariants.{Xy, WestFirst, NorthLast, NegativeFirst}
 use Rattle.routes.specs.Routes.{lanes_allowed}
 use Rattle.routes.specs.Loads.{stream_count}
 use Rattle.codec.specs.declared.number.ByteFault.{ByteFault}
@@ -14,7 +16,15 @@ use Rattle.codec.specs.declared.head.HeadPart.TheVariants.{Version, Rule, Width,
 use Rattle.codec.specs.Reads.{then}
 use Rattle.codec.specs.Numbers.{number_at}
 
--- the head's numbers in their order, one after another from the first byte on
+-- the turn rule of each number
+abbrev pub rule_numbered : ℕ → Option TurnRule
+rule_numbered n = cond (n == 1) (Some Xy) (cond (n == 2) (Some WestFirst) (cond (n == 3) (Some NorthLast) (cond (n == 4) (Some NegativeFirst) None)))
+
+-- the numbers of a head, in their order, with the count of streams
+unfoldable pub head_numbers : Head → ℕ → List ℕ
+head_numbers h count = h.version ∷ (h.rule ∷ (h.width ∷ (h.height ∷ (h.lanes ∷ (h.depth ∷ (h.capacity ∷ (count ∷ [])))))))
+
+-- the numbers of a head, one after another from the first byte on
 abbrev pub head_at : List ℕ → Result HeadNumbers ByteFault
 head_at plan =
     then (number_at plan 0) (λ version.
@@ -36,6 +46,7 @@ head_at plan =
       count = count;
     })))))))))
 
+-- the numbers themselves, but the count
 abbrev pub values_of : HeadNumbers → Head
 values_of n = record {
   version = n.version.value;
@@ -58,6 +69,7 @@ place_of n Depth = n.depth.place
 place_of n Capacity = n.capacity.place
 place_of n Count = n.count.place
 
+-- the parts of a head, in their order
 unfoldable pub parts : List HeadPart
 parts = Version ∷ (Rule ∷ (Width ∷ (Height ∷ (Lanes ∷ (Depth ∷ (Capacity ∷ (Count ∷ [])))))))
 
@@ -75,7 +87,7 @@ number_of h count Count = count
 -- whether a number may stand in a part
 abbrev pub allowed : HeadPart → ℕ → Bool
 allowed Version n = n == 1
-allowed Rule n = nat_le 1 n && nat_le n 4
+allowed Rule n = is_some (rule_numbered n)
 allowed Width n = nat_le 2 n && nat_le n 8
 allowed Height n = nat_le 2 n && nat_le n 8
 allowed Lanes n = lanes_allowed n

@@ -1,4 +1,5 @@
 pub mod Reads
 pub mod Numbers
+pub mod Sequences
 pub mod Heads
 pub mod Records

@@ -1,8 +1,19 @@
 -- The numbers of a plan: groups of seven bits, lowest group first; a byte has its top bit set if another follows.
 use Rattle.std.specs.Prelude.{ℕ, zero, suc, ◌+◌, ◌*◌, ◌/◌, ◌%◌, Bool, false, cond, not, ◌||◌, List, [], ◌∷◌, length, drop, Ok, Err, Result, ◌==◌, nat_le, nat_lt}
+use Rattle.refusals.specs.declared.refusal.Refusal.{Refusal}
+use Rattle.refusals.specs.declared.refusal.Refusal.TheVariants.{NumberCut, NumberForm}
 use Rattle.codec.specs.declared.number.ByteFault.{ByteFault}
 use Rattle.codec.specs.declared.number.ByteFault.TheVariants.{Cut, Form}
 use Rattle.codec.specs.declared.number.Number.{Number}
+
+-- why no number can be read, and the byte at which it would start
+abbrev pub byte_refusal : ByteFault → Refusal
+byte_refusal (Cut place) = NumberCut
+byte_refusal (Form place) = NumberForm
+
+abbrev pub byte_place : ByteFault → ℕ
+byte_place (Cut place) = place
+byte_place (Form place) = place
 
 -- another byte follows
 abbrev pub goes_on : ℕ → Bool

@@ -1,41 +1,25 @@
 -- The records of a plan: stream, source, target, demand, count of hops, and the hops.
-use Rattle.std.specs.Prelude.{◌≡◌, ℕ, zero, suc, ◌+◌, ◌*◌, ◌/◌, ◌%◌, cond, List, [], ◌∷◌, length, map, flat_map, Ok, Err, Result, nat_lt, slice_range}
+use Rattle.std.specs.Prelude.{◌≡◌, ℕ, ◌+◌, ◌*◌, ◌/◌, ◌%◌, cond, List, ◌∷◌, length, map, Ok, Err, Result, nat_lt, slice_range}
 use Rattle.routes.specs.declared.hop.Hop.{Hop}
 use Rattle.routes.specs.declared.stream.Request.{Request}
 use Rattle.routes.specs.Routes.{hop_on}
 use Rattle.codec.specs.declared.number.ByteFault.{ByteFault}
 use Rattle.codec.specs.declared.record.Record.{Record}
 use Rattle.codec.specs.Reads.{then}
-use Rattle.codec.specs.Numbers.{number_at, number_bytes}
+use Rattle.codec.specs.Numbers.{number_at}
+use Rattle.codec.specs.Sequences.{numbers_at, behind, values_in}
 
 -- a hop is numbered by its link and its lane, as if each link had four
 abbrev pub hop_number : Hop → ℕ
 hop_number h = h.link * 4 + h.lane
 
+-- the hop that a number stands for
 abbrev pub hop_of : ℕ → Hop
 hop_of n = hop_on (n / 4) (n % 4)
 
--- numbers that stand one after another, and the byte behind the last
-pub record Sequence : Type 0 where
-  pub values : List ℕ
-  pub next : ℕ
-
-abbrev pub sequence : List ℕ → ℕ → Sequence
-sequence values next = record { values = values; next = next }
-
--- so many numbers from a byte on
-unfoldable pub numbers_at : List ℕ → ℕ → ℕ → Result Sequence ByteFault
-numbers_at plan place zero = Ok (sequence [] place)
-numbers_at plan place (suc n) =
-    then (number_at plan place) (λ x. then (numbers_at plan x.next n) (λ more. Ok (sequence (x.value ∷ more.values) more.next)))
-
--- the byte behind so many numbers
-abbrev pub behind : List ℕ → ℕ → ℕ → Result ℕ ByteFault
-behind plan place n = then (numbers_at plan place n) (λ s. Ok s.next)
-
--- the bytes that write numbers one after another
-abbrev pub numbers_bytes : List ℕ → List ℕ
-numbers_bytes ns = flat_map number_bytes ns
+-- the numbers of a record: stream, source, target, demand, count of hops, and the hops
+unfoldable pub record_numbers : ℕ → Request → List Hop → List ℕ
+record_numbers stream q hops = stream ∷ (q.source ∷ (q.target ∷ (q.demand ∷ (length hops ∷ map hop_number hops))))
 
 -- What a record says, and where: its hops start at the byte `place`, and the byte `next` is behind them.
 pub record Entry : Type 0 where
@@ -67,11 +51,6 @@ record_at plan start =
       place = count.next;
       next = hops.next;
     })))))))
-
--- the numbers that are read, none where one cannot be
-abbrev pub values_in : Result Sequence ByteFault → List ℕ
-values_in (Ok s) = s.values
-values_in (Err e) = []
 
 -- the hops of so many numbers from the first byte on
 abbrev pub hops_in : List ℕ → ℕ → List Hop

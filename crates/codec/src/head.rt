@@ -1,8 +1,10 @@
 // The head of a plan.
-ghost use Rattle.std.specs.Prelude.{◌≡◌, not, find};
-ghost use Rattle.codec.specs.Heads.{parts, allowed, refusal_of, number_of, fits, place_of, values_of, head_at, judged};
+ghost use Rattle.std.specs.Prelude.{◌≡◌, not, find, slice_range, IfOk};
+ghost use Rattle.codec.specs.Sequences.{numbers_bytes};
+ghost use Rattle.codec.specs.Heads.{rule_numbered, head_numbers, parts, allowed, refusal_of, number_of, fits, place_of, values_of, head_at, judged};
 
 use crate::number::{ByteFault, Number, read_number};
+use layouts::turn_rule::TurnRule;
 use refusals::refusal::Refusal;
 
 /// The numbers of a plan's head, but the count of its streams.
@@ -17,7 +19,7 @@ pub struct Head {
     pub capacity: u16,
 }
 
-/// What a grid is that a head has to fit.
+/// The sizes of a grid that a head has to fit.
 #[derive(Clone, Copy, PartialEq, Eq, Debug)]
 pub struct GridSizes {
     pub lanes: u16,
@@ -58,6 +60,19 @@ pub struct HeadNumbers {
     pub count: Number,
 }
 
+/// The turn rule that a number in a head stands for.
+pub fn rule_numbered(number: u16) -> Option<TurnRule>
+    ensures { result ≡ rule_numbered number }
+{
+    match number {
+        1 => Some(TurnRule::Xy),
+        2 => Some(TurnRule::WestFirst),
+        3 => Some(TurnRule::NorthLast),
+        4 => Some(TurnRule::NegativeFirst),
+        _ => None,
+    }
+}
+
 impl HeadPart {
     // All parts, in their order.
     #[tactic(auto, unfolding(crate::specs::Heads::parts))]
@@ -82,9 +97,10 @@ impl HeadPart {
     {
         match self {
             HeadPart::Version => number == 1,
-            HeadPart::Rule | HeadPart::Lanes => 1 <= number && number <= 4,
-            HeadPart::Width | HeadPart::Height => 2 <= number && number <= 8,
-            HeadPart::Depth => 1 <= number && number <= 8,
+            HeadPart::Rule => rule_numbered(number).is_some(),
+            HeadPart::Width | HeadPart::Height => (2..=8).contains(&number),
+            HeadPart::Lanes => (1..=4).contains(&number),
+            HeadPart::Depth => (1..=8).contains(&number),
             HeadPart::Capacity => number > 0,
             HeadPart::Count => number <= 64,
         }
@@ -209,9 +225,10 @@ impl HeadNumbers {
     }
 }
 
-/// Reads the numbers of a plan's head; none is judged.
+/// Reads the numbers of a plan's head; none is judged. Fails with the fault of the first that cannot be read.
 pub fn read_head(plan: &[u8]) -> Result<HeadNumbers, ByteFault>
-    ensures { result ≡ head_at plan.now }
+    ensures value { result ≡ head_at plan.now }
+    ensures stands { IfOk result (λ h. slice_range plan.now 0 h.count.next ≡ numbers_bytes (head_numbers (values_of h) h.count.value)) }
 {
     let version = read_number(plan, 0)?;
     let rule = read_number(plan, version.next)?;

@@ -1,6 +1,6 @@
 // How hops are numbered in a plan.
-ghost use Rattle.std.specs.Prelude.{◌≡◌, ◌≤◌};
-ghost use Rattle.codec.specs.Records.{hop_of, hop_number};
+ghost use Rattle.std.specs.Prelude.{◌≡◌};
+ghost use Rattle.codec.specs.Records.{hop_of};
 
 use routes::hop::Hop;
 

@@ -1,6 +1,8 @@
 // The numbers of a plan, and how each is read.
 ghost use Rattle.std.specs.Prelude.{◌≡◌, ◌≤◌, ◌<◌, length, IfOk, drop, slice_range};
-ghost use Rattle.codec.specs.Numbers.{number_at, number_bytes};
+ghost use Rattle.codec.specs.Numbers.{byte_refusal, byte_place, number_at, number_bytes};
+
+use refusals::refusal::Refusal;
 
 /// Why no number can be read at a byte of a plan.
 #[derive(Clone, Copy, PartialEq, Eq, Debug)]
@@ -10,6 +12,27 @@ pub enum ByteFault {
     /// The number that starts at this byte does not have its form: it is not written in the fewest bytes, goes on past the third, or is
     /// above 65535.
     Form(usize),
+}
+
+impl ByteFault {
+    /// Why no number can be read.
+    pub fn refusal(self) -> Refusal
+        ensures { result ≡ byte_refusal self }
+    {
+        match self {
+            ByteFault::Cut(_) => Refusal::NumberCut,
+            ByteFault::Form(_) => Refusal::NumberForm,
+        }
+    }
+
+    /// The byte at which the number would start.
+    pub fn place(self) -> usize
+        ensures { result ≡ byte_place self }
+    {
+        match self {
+            ByteFault::Cut(place) | ByteFault::Form(place) => place,
+        }
+    }
 }
 
 /// A number of a plan, the byte at which it starts, and the one behind its last.
@@ -27,7 +50,7 @@ fn bytes_from(plan: &[u8], place: usize) -> &[u8]
     &plan[place.min(plan.len())..]
 }
 
-/// Reads the number that starts at a byte of a plan.
+/// Reads the number that starts at a byte of a plan, or tells why there is none.
 #[tactic(auto, unfolding(crate::specs::Numbers::number_bytes))]
 pub fn read_number(plan: &[u8], place: usize) -> Result<Number, ByteFault>
     ensures value { result ≡ number_at plan.now place }

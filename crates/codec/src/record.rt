@@ -1,6 +1,7 @@
 // The records of a plan.
-ghost use Rattle.std.specs.Prelude.{◌≡◌, ◌≤◌, ◌-◌, length, IfOk};
-ghost use Rattle.codec.specs.Records.{behind, hops_read, ReadsRecord};
+ghost use Rattle.std.specs.Prelude.{◌≡◌, ◌≤◌, ◌-◌, length, slice_range, IfOk};
+ghost use Rattle.codec.specs.Sequences.{behind, numbers_bytes};
+ghost use Rattle.codec.specs.Records.{hops_read, record_numbers, entry_of, ReadsRecord};
 
 use crate::number::{ByteFault, read_number};
 use routes::stream::Request;
@@ -38,9 +39,11 @@ fn skip_numbers(plan: &[u8], place: usize, count: u16) -> Result<usize, ByteFaul
     Ok(next)
 }
 
-/// Reads the record that starts at a byte of a plan; none of its numbers is judged.
+/// Reads the record that starts at a byte of a plan; none of its numbers is judged. Fails with the fault of the first that cannot be
+/// read.
 pub fn read_record(plan: &[u8], place: usize) -> Result<Record<'_>, ByteFault>
-    ensures { ReadsRecord plan.now place result }
+    ensures value { ReadsRecord plan.now place result }
+    ensures stands { IfOk result (λ r. r.count ≤ 24 → slice_range plan.now place r.next ≡ numbers_bytes (record_numbers r.stream r.request (entry_of r).hops)) }
 {
     let stream = read_number(plan, place)?;
     let source = read_number(plan, stream.next)?;

@@ -1,5 +1,5 @@
 use Rattle.std.proofs.Common.{◌≡◌, ◌-◌, ◌≤◌, length}
-use Rattle.codec.specs.Records.{behind}
+use Rattle.codec.specs.Sequences.{behind}
 use Rattle.codec.proofs.record.skip_numbers.Given as goal
 
 -- the numbers that are left are behind those read so far

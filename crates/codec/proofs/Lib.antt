@@ -6,3 +6,5 @@ pub mod Entries
 pub mod Reread
 pub mod Heading
 pub mod RecordBytes
+pub mod Cutting
+pub mod JudgedHeads

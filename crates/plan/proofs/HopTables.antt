@@ -4,7 +4,8 @@ use Rattle.std.proofs.Math.Seq.{take-suc-set}
 use Rattle.routes.specs.declared.hop.Hop.{Hop}
 use Rattle.codec.specs.declared.number.Number.{Number}
 use Rattle.codec.specs.Numbers.{number_at}
-use Rattle.codec.specs.Records.{numbers_at, behind, values_in, hop_of, hops_in}
+use Rattle.codec.specs.Sequences.{numbers_at, behind, values_in}
+use Rattle.codec.specs.Records.{hop_of, hops_in}
 use Rattle.codec.proofs.Sequences.{FirstOf, first_of}
 
 -- The first k hops of some bytes stand in a table, and the rest are read from a place on.

@@ -1,5 +1,5 @@
 -- How long a plan can be.
-use Rattle.std.proofs.Common.{◌≡◌, ℕ, zero, suc, ◌+◌, ◌*◌, ◌<◌, ◌≤◌, Bool, true, false, not, cond, find, List, [], ◌∷◌, ◌++◌, length, map, Some, None, Ok, Option, Result, refl, ap, arith, length-append}
+use Rattle.std.proofs.Common.{◌≡◌, ℕ, zero, suc, ◌+◌, ◌*◌, ◌<◌, ◌≤◌, true, is_some, List, [], ◌∷◌, ◌++◌, length, map, Some, None, Ok, Option, refl, ap, arith, length-append}
 use Rattle.std.proofs.lemmas.Bool.Decides.{nat_tests}
 use Rattle.std.proofs.lemmas.Grind.{flat_map-append}
 use Rattle.layouts.specs.Layout.{Meaning, Lawful}
@@ -10,13 +10,14 @@ use Rattle.routes.specs.Checks.{terms_on}
 use Rattle.routes.specs.Acceptable.{Acceptable}
 use Rattle.grid.specs.Sound.{Sound}
 use Rattle.codec.specs.declared.head.GridSizes.{GridSizes}
+use Rattle.codec.specs.declared.head.HeadPart.TheVariants.{Version, Rule, Width, Height, Lanes, Depth, Capacity, Count}
 use Rattle.codec.specs.declared.head.Head.{Head}
-use Rattle.codec.specs.declared.head.HeadFault.{HeadFault}
-use Rattle.codec.specs.declared.head.HeadPart.{HeadPart}
-use Rattle.codec.specs.Heads.{parts, allowed, number_of, fits, misfit, refused, judged}
+use Rattle.codec.specs.Heads.{rule_numbered, judged, head_numbers}
+use Rattle.codec.proofs.JudgedHeads.{each_allowed, each_fits}
 use Rattle.codec.specs.Numbers.{number_bytes}
-use Rattle.codec.specs.Records.{hop_number, numbers_bytes}
-use Rattle.plan.specs.Plans.{numbered, listed, open_streams, record_numbers, head_numbers, records_numbers, plan_bytes}
+use Rattle.codec.specs.Sequences.{numbers_bytes}
+use Rattle.codec.specs.Records.{hop_number, record_numbers}
+use Rattle.plan.specs.Plans.{stream_numbers, numbered, listed, open_streams, records_numbers, plan_bytes}
 
 pub at_most_three : (n : ℕ) → length (number_bytes n) ≤ 3
 unfolding number_bytes
@@ -45,7 +46,7 @@ hops_short (h ∷ hops) small =
     let more = hops_short hops (λ k less. small (suc k) (omega arith)) in
     omega (arith, more, two_bytes (hop_number h) (omega arith), length-append (number_bytes (hop_number h)) (numbers_bytes (map hop_number hops)))
 
-pub record_short : (n : ℕ) (s : OpenStream) → SmallStream n s → length (numbers_bytes (record_numbers (n, s))) ≤ 55
+pub record_short : (n : ℕ) (s : OpenStream) → SmallStream n s → length (numbers_bytes (stream_numbers (n, s))) ≤ 55
 unfolding record_numbers
 record_short n s small =
     let hops = hops_short s.hops small.hops in
@@ -67,8 +68,8 @@ module _ (streams : ℕ → Option OpenStream) (small : (n : ℕ) (s : OpenStrea
   entry_short n rest None there is = omega arith
   entry_short n rest (Some s) there is =
       let short = record_short n s (small n s there is) in
-      let split = flat_map-append number_bytes (record_numbers (n, s)) (records_numbers rest) in
-      omega (arith, short, ap length split, length-append (numbers_bytes (record_numbers (n, s))) (numbers_bytes (records_numbers rest)))
+      let split = flat_map-append number_bytes (stream_numbers (n, s)) (records_numbers rest) in
+      omega (arith, short, ap length split, length-append (numbers_bytes (stream_numbers (n, s))) (numbers_bytes (records_numbers rest)))
 
   listed_short : (n k : ℕ) → n + k ≤ stream_count → length (numbers_bytes (records_numbers (listed streams n k))) ≤ 55 * k
   listed_short n zero there = omega arith
@@ -100,24 +101,8 @@ demand_borne m lanes capacity streams sound n s is =
     let route = sound.routes n s is in
     omega (arith, route.bears 0 (omega (arith, route.count.0)))
 
--- each of these passes a test
-abbrev Each : (HeadPart → Bool) → List HeadPart → Type 0
-Each test [] = Unit {0}
-Each test (x ∷ xs) = (test x ≡ true) × Each test xs
-
-none_fails : (test : HeadPart → Bool) (xs : List HeadPart) → find (λ x. not (test x)) xs ≡ None → Each test xs
-none_fails test [] none = tt
-none_fails test (x ∷ xs) none =
-    elim (test x) as (λ b. test x ≡ b → cond (not b) (Some x) (find (λ y. not (test y)) xs) ≡ None → Each test (x ∷ xs))
-    [ true ↦ λ pass rest. (pass, none_fails test xs rest) | false ↦ λ fail rest. cc ] refl none
-
-not_refused : (found : Option HeadPart) (fitting : Result (Unit {0}) HeadFault) → refused found fitting ≡ Ok tt → (found ≡ None) × (fitting ≡ Ok tt)
-not_refused None fitting is = (refl, is)
-not_refused (Some part) fitting is = cc
-
-not_misfit : (found : Option HeadPart) → misfit found ≡ Ok tt → found ≡ None
-not_misfit None is = refl
-not_misfit (Some part) is = cc
+rule_small : (n : ℕ) → is_some (rule_numbered n) ≡ true → n < 128
+rule_small n is = grind (arith, nat_tests)
 
 -- The numbers of an accepted head are small too, and those that have to fit are the grid's.
 pub record SmallHead (h : Head) (count : ℕ) (grid : GridSizes) : Type 0 where
@@ -131,20 +116,17 @@ pub record SmallHead (h : Head) (count : ℕ) (grid : GridSizes) : Type 0 where
   pub streams : count ≤ 64
 
 pub small_head : (h : Head) (count : ℕ) (grid : GridSizes) → judged h count grid ≡ Ok tt → SmallHead h count grid
-unfolding parts
 small_head h count grid is =
-    let both = not_refused (find (λ part. not (allowed part (number_of h count part))) parts) (misfit (find (λ part. not (fits h grid part)) parts)) is in
-    let pass = none_fails (λ part. allowed part (number_of h count part)) parts both.0 in
-    let fit = none_fails (fits h grid) parts (not_misfit _ both.1) in
+    let pass = each_allowed h count grid is in
     record {
-      version = grind (arith, nat_tests, pass.0);
-      rule = grind (arith, nat_tests, pass.1.0);
-      width = grind (arith, nat_tests, pass.1.1.0);
-      height = grind (arith, nat_tests, pass.1.1.1.0);
-      lanes = grind (arith, nat_tests, pass.1.1.1.1.0);
-      depth = grind (arith, nat_tests, pass.1.1.1.1.1.0);
-      capacity = grind (arith, nat_tests, fit.1.1.1.1.1.1.0);
-      streams = grind (arith, nat_tests, pass.1.1.1.1.1.1.1.0);
+      version = grind (arith, nat_tests, pass Version);
+      rule = rule_small h.rule (pass Rule);
+      width = grind (arith, nat_tests, pass Width);
+      height = grind (arith, nat_tests, pass Height);
+      lanes = grind (arith, nat_tests, pass Lanes);
+      depth = grind (arith, nat_tests, pass Depth);
+      capacity = grind (arith, nat_tests, each_fits h count grid is Capacity);
+      streams = grind (arith, nat_tests, pass Count);
     }
 
 pub head_short : (h : Head) (count : ℕ) (grid : GridSizes) → SmallHead h count grid → length (numbers_bytes (head_numbers h count)) ≤ 10

@@ -10,3 +10,4 @@ mod Checking
 mod Rising
 mod Rewriting
 mod LoadedLengths
+mod Cutting

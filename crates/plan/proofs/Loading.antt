@@ -55,8 +55,8 @@ module _ (m : Meaning) (t t' : Tables) (n : ℕ) (q : Request) (hops : List Hop)
   setting_is : (a : Answer (Unit {0})) → Edits m t (opens n q hops) a t' → setting m t' 0 ≡ setting m t 0
   setting_is a edits = rw (edits.made.size, edits.made.capacity) refl
 
-  pub streams_after : Edits m t (opens n q hops) done t' → streams_in t' ≡ assign (streams_in t) n (Some (record { request = q; hops = hops }))
-  streams_after edits = ap (λ g. g.streams) (outline_is edits)
+  pub streams_once_open : Edits m t (opens n q hops) done t' → streams_in t' ≡ assign (streams_in t) n (Some (record { request = q; hops = hops }))
+  streams_once_open edits = ap (λ g. g.streams) (outline_is edits)
 
   -- the records behind it are loaded on the grid that it leaves
   on_opened : Edits m t (opens n q hops) done t' → (plan : List ℕ) (k place count : ℕ) → records_from (setting m t' 0) plan (outline t') k place count

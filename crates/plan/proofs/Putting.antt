@@ -2,7 +2,7 @@
 use Rattle.std.proofs.Common.{◌≡◌, ℕ, suc, ◌+◌, ◌<◌, ◌≤◌, List, [], ◌++◌, length, map, drop, get_or, sym, ap, ◌∙◌, arith, append_assoc, append-nil, length-append, add-one, drop-cons, length-drop}
 use Rattle.std.proofs.lemmas.List.{nil_from_length}
 use Rattle.codec.specs.Numbers.{number_bytes}
-use Rattle.codec.specs.Records.{numbers_bytes}
+use Rattle.codec.specs.Sequences.{numbers_bytes}
 
 -- The numbers of things from number k on are still to be written; with those that are, they make what is wanted.
 pub record ToWrite {X : Type 0} (number : X → ℕ) (xs : List X) (k : ℕ) (written wanted : List ℕ) : Type 0 where

@@ -19,17 +19,18 @@ use Rattle.grid.proofs.Sounding.{reopens}
 use Rattle.codec.specs.declared.head.GridSizes.{GridSizes}
 use Rattle.codec.specs.declared.head.Head.{Head}
 use Rattle.codec.specs.declared.head.HeadNumbers.{HeadNumbers}
-use Rattle.codec.specs.Heads.{head_at, values_of, judged}
+use Rattle.codec.specs.Heads.{head_at, values_of, judged, head_numbers}
 use Rattle.codec.specs.Numbers.{number_bytes}
-use Rattle.codec.specs.Records.{Entry, hop_number, numbers_bytes, record_at}
+use Rattle.codec.specs.Sequences.{numbers_bytes}
+use Rattle.codec.specs.Records.{Entry, hop_number, record_at, record_numbers}
 use Rattle.codec.proofs.Sequenced.{Small}
-use Rattle.codec.proofs.Reread.{Ahead, in_head, head_reread, in_record, record_reread}
+use Rattle.codec.proofs.Reread.{Ahead, head_reread, record_reread}
 use Rattle.plan.specs.declared.fault.LoadFault.{LoadFault}
 use Rattle.plan.specs.Loads.{accepted_head, sizes_of, opening_of, records_from, ComesTo, Loads}
-use Rattle.plan.specs.Plans.{numbered, listed, open_streams, record_numbers, records_numbers, head_numbers, plan_bytes}
+use Rattle.plan.specs.Plans.{stream_numbers, numbered, listed, open_streams, records_numbers, plan_bytes}
 use Rattle.plan.specs.RoundTrips.{LoadsAs}
 use Rattle.plan.proofs.Lengths.{small_stream, small_head, demand_borne}
-use Rattle.plan.proofs.Loading.{first_opened, streams_after}
+use Rattle.plan.proofs.Loading.{first_opened, streams_once_open}
 
 none_either : (b : Bool) → cond {A = Option OpenStream} b None None ≡ None
 none_either true = refl
@@ -72,7 +73,8 @@ module _ (m : Meaning) (law : Lawful m) (sizes : GridSizes) (few : sizes.lanes �
     streams_are = fun_ext (λ n. let test : nat_lt n 0 ≡ false = grind (arith, nat_tests) in rw test (blank.no_stream n));
   }
 
-  small_record : (k : ℕ) (s : OpenStream) → k < stream_count → streams k ≡ Some s → Small (in_record k s.request s.hops)
+  small_record : (k : ℕ) (s : OpenStream) → k < stream_count → streams k ≡ Some s → Small (record_numbers k s.request s.hops)
+  unfolding record_numbers
   small_record k s there is =
       let small = small_stream m law sizes.lanes sizes.capacity few streams sound k s there is in (
         omega (arith, small.number),
@@ -102,7 +104,7 @@ module _ (m : Meaning) (law : Lawful m) (sizes : GridSizes) (few : sizes.lanes �
   reopened_one : (t between : Tables) (k : ℕ) (s : OpenStream) (e : Entry) → Reopened t k → streams k ≡ Some s → e.stream ≡ k → e.request ≡ s.request → e.hops ≡ s.hops
       → Edits m t (opening_of e) done between → Reopened between (k + 1)
   reopened_one t between k s e so_far is stream_is request_is hops_are edits =
-      let after : streams_in between ≡ assign (streams_in t) e.stream (Some (record { request = e.request; hops = e.hops })) = streams_after m t between e.stream e.request e.hops edits in
+      let after : streams_in between ≡ assign (streams_in t) e.stream (Some (record { request = e.request; hops = e.hops })) = streams_once_open m t between e.stream e.request e.hops edits in
       record {
         lanes = ap (λ size. size.lanes) edits.made.size ∙ so_far.lanes;
         capacity = edits.made.capacity ∙ so_far.capacity;
@@ -116,10 +118,9 @@ module _ (m : Meaning) (law : Lawful m) (sizes : GridSizes) (few : sizes.lanes �
   lanes_low k s is j less = omega (arith, ((sound.routes k s is).on_grid j less).1)
 
   record_ahead : (k : ℕ) (s : OpenStream) (rest : List (ℕ × OpenStream)) (place : ℕ) → Ahead plan place (records_numbers ((k, s) ∷ rest)) []
-      → Ahead plan place (in_record k s.request s.hops) (numbers_bytes (records_numbers rest) ++ [])
-  unfolding record_numbers
+      → Ahead plan place (record_numbers k s.request s.hops) (numbers_bytes (records_numbers rest) ++ [])
   record_ahead k s rest place ahead = record {
-    bytes = ahead.bytes ∙ (ap (λ bytes. bytes ++ []) (flat_map-append number_bytes (record_numbers (k, s)) (records_numbers rest)) ∙ append_assoc (numbers_bytes (record_numbers (k, s))) _ _);
+    bytes = ahead.bytes ∙ (ap (λ bytes. bytes ++ []) (flat_map-append number_bytes (stream_numbers (k, s)) (records_numbers rest)) ∙ append_assoc (numbers_bytes (stream_numbers (k, s))) _ _);
   }
 
   open_next : (t t' : Tables) (k : ℕ) (s : OpenStream) (i place n : ℕ) (r : Result ℕ LoadFault) (e : Entry) → Reopened t k → k < stream_count → streams k ≡ Some s
@@ -184,7 +185,8 @@ head_accepted sizes plan h count n is values counted pass =
 module _ (m : Meaning) (law : Lawful m) (sizes : GridSizes) (few : sizes.lanes ≤ 4) (bound : sizes.capacity ≤ 65535) (streams : ℕ → Option OpenStream)
     (sound : Sound m sizes.lanes sizes.capacity streams) (beyond : (n : ℕ) → stream_count ≤ n → streams n ≡ None) (h : Head)
     (pass : judged h (length (open_streams streams)) sizes ≡ Ok tt) where
-  small_in_head : Small (in_head h (length (open_streams streams)))
+  small_in_head : Small (head_numbers h (length (open_streams streams)))
+  unfolding head_numbers
   small_in_head =
       let small = small_head h (length (open_streams streams)) sizes pass in (
         omega (arith, small.version),
@@ -206,8 +208,7 @@ module _ (m : Meaning) (law : Lawful m) (sizes : GridSizes) (few : sizes.lanes �
         ),
       )
 
-  head_ahead : Ahead (plan_bytes h streams) 0 (in_head h (length (open_streams streams))) (numbers_bytes (records_numbers (open_streams streams)) ++ [])
-  unfolding head_numbers
+  head_ahead : Ahead (plan_bytes h streams) 0 (head_numbers h (length (open_streams streams))) (numbers_bytes (records_numbers (open_streams streams)) ++ [])
   head_ahead = record {
     bytes = flat_map-append number_bytes (head_numbers h (length (open_streams streams))) (records_numbers (open_streams streams))
         ∙ ap (λ bytes. numbers_bytes (head_numbers h (length (open_streams streams))) ++ bytes) (sym (append-nil _));

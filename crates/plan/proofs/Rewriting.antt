@@ -22,19 +22,20 @@ use Rattle.codec.specs.declared.head.GridSizes.{GridSizes}
 use Rattle.codec.specs.declared.head.HeadFault.{HeadFault}
 use Rattle.codec.specs.declared.head.HeadNumbers.{HeadNumbers}
 use Rattle.codec.specs.declared.number.ByteFault.{ByteFault}
-use Rattle.codec.specs.Heads.{head_at, values_of, judged}
+use Rattle.codec.specs.Heads.{head_at, values_of, judged, head_numbers}
 use Rattle.codec.specs.Numbers.{number_bytes}
-use Rattle.codec.specs.Records.{Entry, record_at, numbers_bytes}
+use Rattle.codec.specs.Sequences.{numbers_bytes}
+use Rattle.codec.specs.Records.{Entry, record_at, record_numbers}
 use Rattle.codec.proofs.Standing.{Bytes}
 use Rattle.codec.proofs.Heading.{head_stands}
 use Rattle.codec.proofs.RecordBytes.{hops_counted, record_stands}
 use Rattle.plan.specs.declared.fault.LoadFault.{LoadFault}
 use Rattle.plan.specs.declared.fault.LoadFault.TheVariants as fault
 use Rattle.plan.specs.Buffers.{fitted}
-use Rattle.plan.specs.Loads.{Loading, once_read, unless_declined, at_end, records_from, if_judged, if_read, accepted_head, behind_head, sizes_of, loading_on, Loads}
-use Rattle.plan.specs.Plans.{open_streams, record_numbers, head_numbers, records_numbers, plan_bytes}
+use Rattle.plan.specs.Loads.{Loading, once_read, at_end, records_from, if_judged, if_read, accepted_head, behind_head, sizes_of, loading_on, Loads, once_accepted}
+use Rattle.plan.specs.Plans.{stream_numbers, open_streams, records_numbers, plan_bytes}
 use Rattle.plan.specs.RoundTrips.{WrittenBack}
-use Rattle.plan.proofs.Rising.{AllBelow, told, open_as_told, streams_opened, sizes_stay}
+use Rattle.plan.proofs.Rising.{AllBelow, numbered_stream, open_as_told, streams_opened, sizes_stay}
 
 -- A record whose stream can be opened: it has a number of the table, and a route that is acceptable with the streams that are open then.
 pub record Opened (m : Meaning) (lanes capacity : ℕ) (e : Entry) : Type 0 where
@@ -64,7 +65,7 @@ read_on : (k : ℕ) (r : Result Entry ByteFault) (more : Entry → Loading) (c :
 read_on k (Ok e) more c is = (e, refl, is)
 read_on k (Err f) more c is = cc
 
-opened_on : (k : ℕ) (e : Entry) (o : Option Declined) (more : Loading) (c : ℕ) → (unless_declined k e o more).answer ≡ Ok c
+opened_on : (k : ℕ) (e : Entry) (o : Option Declined) (more : Loading) (c : ℕ) → (once_accepted k e o more).answer ≡ Ok c
     → (o ≡ None) × (more.answer ≡ Ok c)
 opened_on k e None more c is = (refl, is)
 opened_on k e (Some d) more c is = cc
@@ -76,7 +77,7 @@ ended plan count place c is =
 
 -- Records that are opened stand as they are written, up to the end of the plan.
 pub record Stand (m : Meaning) (lanes capacity : ℕ) (plan : List ℕ) (place n : ℕ) (opened : List Entry) : Type 0 where
-  pub bytes : drop place plan ≡ numbers_bytes (records_numbers (map told opened))
+  pub bytes : drop place plan ≡ numbers_bytes (records_numbers (map numbered_stream opened))
   pub count : length opened ≡ n
   pub each : All (Opened m lanes capacity) opened
 
@@ -87,7 +88,7 @@ module _ (m : Meaning) (lanes depth capacity slots : ℕ) (plan : List ℕ) (all
   one_stands place n e more is opened stand =
       let first = record_stands plan place e all is (hops_whole plan place e is opened.route.count.0) in
       record {
-        bytes = first.bytes ∙ (ap (λ rest. numbers_bytes (record_numbers (told e)) ++ rest) stand.bytes ∙ sym (flat_map-append number_bytes (record_numbers (told e)) (records_numbers (map told more))));
+        bytes = first.bytes ∙ (ap (λ rest. numbers_bytes (stream_numbers (numbered_stream e)) ++ rest) stand.bytes ∙ sym (flat_map-append number_bytes (stream_numbers (numbered_stream e)) (records_numbers (map numbered_stream more))));
         count = ap suc stand.count;
         each = (opened, stand.each);
       }
@@ -125,7 +126,7 @@ pub record Loaded (m : Meaning) (t : Tables) (plan : List ℕ) (opened : List En
   pub head : HeadNumbers
   pub is : head_at plan ≡ Ok head
   pub judged : judged (values_of head) head.count.value (sizes_of t) ≡ Ok tt
-  pub bytes : plan ≡ numbers_bytes (head_numbers (values_of head) head.count.value ++ records_numbers (map told opened))
+  pub bytes : plan ≡ numbers_bytes (head_numbers (values_of head) head.count.value ++ records_numbers (map numbered_stream opened))
   pub count : length opened ≡ head.count.value
   pub each : All (Opened m t.lanes.size.lanes t.capacity) opened
 
@@ -147,7 +148,7 @@ loaded m t plan all c is =
       bytes =
           front.bytes
           ∙ (ap (λ rest. numbers_bytes (head_numbers (values_of h) h.count.value) ++ rest) stand.bytes
-          ∙ sym (flat_map-append number_bytes (head_numbers (values_of h) h.count.value) (records_numbers (map told _))));
+          ∙ sym (flat_map-append number_bytes (head_numbers (values_of h) h.count.value) (records_numbers (map numbered_stream _))));
       count = stand.count;
       each = stand.each;
     })
@@ -165,9 +166,9 @@ written_back m t t' plan all c loads none rise =
     let opened = (loading_on m t plan).opened in
     let whole = loaded m t plan all c (sym loads.0) in
     let h = whole.head in
-    let listed : open_streams (streams_in t') ≡ map told opened =
+    let listed : open_streams (streams_in t') ≡ map numbered_stream opened =
     ap open_streams (streams_opened m opened t t' loads.1) ∙ open_as_told opened (streams_in t) rise (all_below _ _ _ opened whole.each) none in
-    let count : length (open_streams (streams_in t')) ≡ h.count.value = ap length listed ∙ (length-map opened told ∙ whole.count) in
+    let count : length (open_streams (streams_in t')) ≡ h.count.value = ap length listed ∙ (length-map opened numbered_stream ∙ whole.count) in
     let judged : judged (values_of h) (length (open_streams (streams_in t'))) (sizes_of t') ≡ Ok tt =
     rw (count, sizes_stay m opened t t' loads.1) whole.judged in
     let bytes : plan_bytes (values_of h) (streams_in t') ≡ plan = rw (count, listed) (sym whole.bytes) in

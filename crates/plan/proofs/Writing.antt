@@ -12,8 +12,10 @@ use Rattle.routes.specs.Routes.{OpenStream, hop_at}
 use Rattle.routes.specs.Loads.{stream_count}
 use Rattle.codec.specs.declared.head.Head.{Head}
 use Rattle.codec.specs.Numbers.{number_bytes}
-use Rattle.codec.specs.Records.{hop_number, numbers_bytes}
-use Rattle.plan.specs.Plans.{listed, open_streams, record_numbers, head_numbers, records_numbers, plan_bytes}
+use Rattle.codec.specs.Sequences.{numbers_bytes}
+use Rattle.codec.specs.Records.{hop_number}
+use Rattle.plan.specs.Plans.{stream_numbers, listed, open_streams, records_numbers, plan_bytes}
+use Rattle.codec.specs.Heads.{head_numbers}
 use Rattle.plan.proofs.Listing.{Told, none_told, closed_told, open_told, all_told}
 
 -- the bytes of a head, and of the records of some streams
@@ -22,14 +24,14 @@ bytes_of h count told = numbers_bytes (head_numbers h count ++ records_numbers t
 
 -- one record more
 record_behind : (h : Head) (count : ℕ) (told : List (ℕ × OpenStream)) (r : ℕ × OpenStream) (more : List (ℕ × OpenStream))
-    → bytes_of h count (told ++ (r ∷ more)) ≡ bytes_of h count told ++ (numbers_bytes (record_numbers r) ++ numbers_bytes (records_numbers more))
+    → bytes_of h count (told ++ (r ∷ more)) ≡ bytes_of h count told ++ (numbers_bytes (stream_numbers r) ++ numbers_bytes (records_numbers more))
 record_behind h count told r more =
     let head = head_numbers h count in
-    let apart : head ++ records_numbers (told ++ (r ∷ more)) ≡ (head ++ records_numbers told) ++ (record_numbers r ++ records_numbers more) =
-    ap (λ ns. head ++ ns) (flat_map-append record_numbers told (r ∷ more)) ∙ sym (append_assoc head (records_numbers told) (record_numbers r ++ records_numbers more)) in
+    let apart : head ++ records_numbers (told ++ (r ∷ more)) ≡ (head ++ records_numbers told) ++ (stream_numbers r ++ records_numbers more) =
+    ap (λ ns. head ++ ns) (flat_map-append stream_numbers told (r ∷ more)) ∙ sym (append_assoc head (records_numbers told) (stream_numbers r ++ records_numbers more)) in
     ap numbers_bytes apart
-    ∙ (flat_map-append number_bytes (head ++ records_numbers told) (record_numbers r ++ records_numbers more)
-    ∙ ap (λ bytes. bytes_of h count told ++ bytes) (flat_map-append number_bytes (record_numbers r) (records_numbers more)))
+    ∙ (flat_map-append number_bytes (head ++ records_numbers told) (stream_numbers r ++ records_numbers more)
+    ∙ ap (λ bytes. bytes_of h count told ++ bytes) (flat_map-append number_bytes (stream_numbers r) (records_numbers more)))
 
 -- the streams of numbers below k are written
 pub record SoFar (h : Head) (streams : ℕ → Option OpenStream) (k : ℕ) (items : List ℕ) : Type 0 where
@@ -49,17 +51,17 @@ module _ (h : Head) (streams : ℕ → Option OpenStream) (k : ℕ) (items : Lis
   pub closed_written : k < stream_count → streams k ≡ None → SoFar h streams (k + 1) items
   closed_written more none = record { told = written.told; so_far = closed_told streams k written.told written.so_far more none; bytes = written.bytes }
 
-  pub open_written : (s : OpenStream) → k < stream_count → streams k ≡ Some s → SoFar h streams (k + 1) (items ++ numbers_bytes (record_numbers (k, s)))
+  pub open_written : (s : OpenStream) → k < stream_count → streams k ≡ Some s → SoFar h streams (k + 1) (items ++ numbers_bytes (stream_numbers (k, s)))
   open_written s more is = record {
     told = _;
     so_far = open_told streams k written.told written.so_far s more is;
     bytes =
-        ap (λ i. i ++ numbers_bytes (record_numbers (k, s))) written.bytes
-        ∙ (ap (λ r. bytes_of h (length (open_streams streams)) written.told ++ r) (sym (append-nil (numbers_bytes (record_numbers (k, s)))))
+        ap (λ i. i ++ numbers_bytes (stream_numbers (k, s))) written.bytes
+        ∙ (ap (λ r. bytes_of h (length (open_streams streams)) written.told ++ r) (sym (append-nil (numbers_bytes (stream_numbers (k, s)))))
         ∙ sym (record_behind h (length (open_streams streams)) written.told (k, s) []));
   }
 
-  pub room_for : (s : OpenStream) → k < stream_count → streams k ≡ Some s → length items + length (numbers_bytes (record_numbers (k, s))) ≤ length (plan_bytes h streams)
+  pub room_for : (s : OpenStream) → k < stream_count → streams k ≡ Some s → length items + length (numbers_bytes (stream_numbers (k, s))) ≤ length (plan_bytes h streams)
   room_for s more is =
       let on = open_told streams k written.told written.so_far s more is in
       let count = length (open_streams streams) in
@@ -71,8 +73,8 @@ module _ (h : Head) (streams : ℕ → Option OpenStream) (k : ℕ) (items : Lis
         ap length written.bytes,
         ap length whole,
         ap length parts,
-        length-append (bytes_of h count written.told) (numbers_bytes (record_numbers (k, s)) ++ numbers_bytes (records_numbers rest)),
-        length-append (numbers_bytes (record_numbers (k, s))) (numbers_bytes (records_numbers rest)),
+        length-append (bytes_of h count written.told) (numbers_bytes (stream_numbers (k, s)) ++ numbers_bytes (records_numbers rest)),
+        length-append (numbers_bytes (stream_numbers (k, s))) (numbers_bytes (records_numbers rest)),
       )
 
   pub all_written : stream_count ≤ k → items ≡ plan_bytes h streams

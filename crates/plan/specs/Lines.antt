@@ -1,22 +1,11 @@
 -- How a verdict is told in a line.
 use Rattle.std.specs.Prelude.{ℕ, List, [], ◌∷◌, ◌++◌, codes, decimal, Some, None, Ok, Err, Option, Result}
 use Rattle.refusals.specs.declared.refusal.Refusal.{Refusal}
-use Rattle.refusals.specs.declared.refusal.Refusal.TheVariants.{NumberCut, NumberForm}
 use Rattle.refusals.specs.Numbers.{refusal_number}
-use Rattle.codec.specs.declared.number.ByteFault.{ByteFault}
-use Rattle.codec.specs.declared.number.ByteFault.TheVariants.{Cut, Form}
+use Rattle.codec.specs.Numbers.{byte_refusal, byte_place}
 use Rattle.plan.specs.declared.fault.LoadFault.{LoadFault}
 use Rattle.plan.specs.declared.fault.LoadFault.TheVariants as fault
 use Rattle.plan.specs.declared.line.Summary.{Summary}
-
--- why no number can be read, and the byte at which it starts
-abbrev pub byte_refusal : ByteFault → Refusal
-byte_refusal (Cut place) = NumberCut
-byte_refusal (Form place) = NumberForm
-
-abbrev pub byte_place : ByteFault → ℕ
-byte_place (Cut place) = place
-byte_place (Form place) = place
 
 -- what is to blame: 1 the bytes, 2 the plan, 3 the grid
 abbrev pub layer_of : LoadFault → ℕ

@@ -3,10 +3,12 @@ use Rattle.std.specs.Prelude.{◌≡◌, ℕ, zero, suc, ◌+◌, cond, List, []
 use Rattle.refusals.specs.declared.refusal.Refusal.TheVariants.{TrailingBytes}
 use Rattle.layouts.specs.Layout.{Meaning}
 use Rattle.routes.specs.declared.declined.Declined.{Declined}
-use Rattle.model.specs.Grid.{Setting, Grid}
+use Rattle.routes.specs.Routes.{OpenStream}
+use Rattle.model.specs.Grid.{Setting, Grid, assign}
+use Rattle.model.specs.Layouts.{on_layout}
 use Rattle.model.specs.Calls.{Call, opens, done, open_refusal, opening}
 use Rattle.grid.specs.declared.tables.Tables.{Tables}
-use Rattle.grid.specs.Views.{outline, setting}
+use Rattle.grid.specs.Views.{outline}
 use Rattle.grid.specs.Makes.{Same, Edits}
 use Rattle.codec.specs.declared.head.GridSizes.{GridSizes}
 use Rattle.codec.specs.declared.head.HeadFault.{HeadFault}
@@ -31,9 +33,9 @@ abbrev pub and_on : Entry → Loading → Loading
 and_on e more = record { opened = e ∷ more.opened; answer = more.answer }
 
 -- record number k is opened where the grid does not decline its stream
-abbrev pub unless_declined : ℕ → Entry → Option Declined → Loading → Loading
-unless_declined k e None more = and_on e more
-unless_declined k e (Some d) more = ends (Err (fault.Grid (record { number = k; fault = d })))
+abbrev pub once_accepted : ℕ → Entry → Option Declined → Loading → Loading
+once_accepted k e None more = and_on e more
+once_accepted k e (Some d) more = ends (Err (fault.Grid (record { number = k; fault = d })))
 
 -- record number k is opened where its numbers can be read
 abbrev pub once_read : ℕ → Result Entry ByteFault → (Entry → Loading) → Loading
@@ -48,14 +50,15 @@ at_end plan count place = ends (cond (nat_lt place (length plan)) (Err (fault.Pl
 unfoldable pub records_from : {T : Type 0} → Setting → List ℕ → Grid T → ℕ → ℕ → ℕ → Loading
 records_from S plan g k place zero = at_end plan k place
 records_from S plan g k place (suc n) =
-    once_read k (record_at plan place) (λ e. unless_declined k e (open_refusal S g e.stream e.request e.hops)
+    once_read k (record_at plan place) (λ e. once_accepted k e (open_refusal S g e.stream e.request e.hops)
     (records_from S plan (opening S g e.stream e.request e.hops).grid (k + 1) e.next n))
 
--- a head that is read and judged, or the fault
+-- a head that was judged, or its fault with the byte at which the number to blame starts
 abbrev pub if_judged : HeadNumbers → Result (Unit {0}) HeadFault → Result HeadNumbers LoadFault
 if_judged h (Ok a) = Ok h
 if_judged h (Err f) = Err (fault.Plan (record { refusal = f.refusal; place = place_of h f.part }))
 
+-- a head that was read, once it is judged
 abbrev pub if_read : GridSizes → Result HeadNumbers ByteFault → Result HeadNumbers LoadFault
 if_read sizes (Ok h) = if_judged h (judged (values_of h) h.count.value sizes)
 if_read sizes (Err f) = Err (fault.HeadBytes f)
@@ -69,9 +72,18 @@ abbrev pub behind_head : {T : Type 0} → Setting → List ℕ → Grid T → Re
 behind_head S plan g (Ok h) = records_from S plan g 0 h.count.next h.count.value
 behind_head S plan g (Err f) = ends (Err f)
 
--- loading a plan on a grid of these sizes
-abbrev pub loading : {T : Type 0} → Setting → GridSizes → Grid T → List ℕ → Loading
-loading S sizes g plan = behind_head S plan g (accepted_head sizes plan)
+-- a plan is loaded on a grid of a layout and of these sizes; no slots are lent for it
+abbrev pub loading : {T : Type 0} → Meaning → GridSizes → Grid T → List ℕ → Loading
+loading m sizes g plan = behind_head (on_layout m sizes.lanes sizes.depth sizes.capacity 0) plan g (accepted_head sizes plan)
+
+-- the stream of a record
+abbrev pub stream_in : Entry → OpenStream
+stream_in e = record { request = e.request; hops = e.hops }
+
+-- the open streams once those of these records are opened, one after another
+abbrev pub streams_after : (ℕ → Option OpenStream) → List Entry → ℕ → Option OpenStream
+streams_after streams [] = streams
+streams_after streams (e ∷ more) = streams_after (assign streams e.stream (Some (stream_in e))) more
 
 -- ---- on tables
 
@@ -80,7 +92,7 @@ abbrev pub sizes_of : Tables → GridSizes
 sizes_of t = record { lanes = t.lanes.size.lanes; depth = t.lanes.size.depth; capacity = t.capacity }
 
 abbrev pub loading_on : Meaning → Tables → List ℕ → Loading
-loading_on m t plan = loading (setting m t 0) (sizes_of t) (outline t) plan
+loading_on m t plan = loading m (sizes_of t) (outline t) plan
 
 -- the opening of a record's stream
 abbrev pub opening_of : Entry → Call (Unit {0})

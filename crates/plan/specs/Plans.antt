@@ -1,9 +1,11 @@
 -- The plan of the open streams, as it is written.
-use Rattle.std.specs.Prelude.{ℕ, zero, suc, ◌+◌, List, [], ◌∷◌, ◌++◌, length, map, flat_map, Some, None, Option}
+use Rattle.std.specs.Prelude.{ℕ, zero, suc, ◌+◌, List, [], ◌∷◌, ◌++◌, length, flat_map, Some, None, Option}
 use Rattle.routes.specs.Routes.{OpenStream}
 use Rattle.routes.specs.Loads.{stream_count}
 use Rattle.codec.specs.declared.head.Head.{Head}
-use Rattle.codec.specs.Records.{hop_number, numbers_bytes}
+use Rattle.codec.specs.Sequences.{numbers_bytes}
+use Rattle.codec.specs.Heads.{head_numbers}
+use Rattle.codec.specs.Records.{record_numbers}
 
 -- a stream with its number, if it is open
 abbrev pub numbered : ℕ → Option OpenStream → List (ℕ × OpenStream)
@@ -19,17 +21,13 @@ listed streams n (suc k) = numbered n (streams n) ++ listed streams (n + 1) k
 unfoldable pub open_streams : (ℕ → Option OpenStream) → List (ℕ × OpenStream)
 open_streams streams = listed streams 0 stream_count
 
--- the numbers of a record: stream, source, target, demand, count of hops, and the hops
-unfoldable pub record_numbers : (ℕ × OpenStream) → List ℕ
-record_numbers r = r.0 ∷ (r.1.request.source ∷ (r.1.request.target ∷ (r.1.request.demand ∷ (length r.1.hops ∷ map hop_number r.1.hops))))
-
--- the numbers of a head: version, rule, width, height, lanes, depth, capacity, and the count of streams
-unfoldable pub head_numbers : Head → ℕ → List ℕ
-head_numbers h count = h.version ∷ (h.rule ∷ (h.width ∷ (h.height ∷ (h.lanes ∷ (h.depth ∷ (h.capacity ∷ (count ∷ [])))))))
+-- the numbers of a stream's record
+abbrev pub stream_numbers : (ℕ × OpenStream) → List ℕ
+stream_numbers r = record_numbers r.0 r.1.request r.1.hops
 
 -- the numbers of records, one after another
 abbrev pub records_numbers : List (ℕ × OpenStream) → List ℕ
-records_numbers records = flat_map record_numbers records
+records_numbers records = flat_map stream_numbers records
 
 -- the plan of the open streams under a head
 abbrev pub plan_bytes : Head → (ℕ → Option OpenStream) → List ℕ

@@ -1,19 +1,19 @@
 // From the bytes of a plan to its verdict.
-ghost use Rattle.std.specs.Prelude.{◌≡◌, take, IfOk};
+ghost use Rattle.std.specs.Prelude.{◌≡◌, take, IfOk, IfErr, IsOk};
 ghost use Rattle.layouts.specs.Mesh.{meaning_of};
 ghost use Rattle.codec.specs.Heads.{values_of};
 ghost use Rattle.grid.specs.Blank.{BlankTables};
-ghost use Rattle.plan.specs.Verdicts.{rule_of, mesh_in, sizes_in, IsAccepted, own_head, verdict_of};
+ghost use Rattle.plan.specs.Verdicts.{mesh_in, sizes_in, IsAccepted, own_head, verdict_of, Sums};
+ghost use Rattle.plan.specs.declared.check.NoSummary.TheVariants.{Fault, OutOfMemory};
 
 use crate::fault::LoadFault;
-use crate::line::Verdict;
+use crate::line::{Summary, Verdict};
 use crate::load::{accepted_head, load};
 use crate::summary::summary;
-use codec::head::{GridSizes, Head, HeadNumbers, read_head};
+use codec::head::{GridSizes, Head, HeadNumbers, read_head, rule_numbered};
 use grid::grid::Grid;
 use grid::make::MakeError;
 use layouts::mesh::Mesh;
-use layouts::turn_rule::TurnRule;
 use std::alloc::{AllocError, Global};
 
 /// How many bytes of a plan are looked at.
@@ -22,22 +22,9 @@ pub const LIMIT: usize = 4096;
 // The bytes of a plan that are looked at.
 #[tactic(auto, using(std::proofs::lemmas::List::take_min))]
 fn first_bytes(plan: &[u8]) -> &[u8]
-    ensures { result.now ≡ take 4096 plan.now }
+    ensures { result.now ≡ take LIMIT plan.now }
 {
     &plan[..LIMIT.min(plan.len())]
-}
-
-// The turn rule of a number.
-fn rule_of(number: u16) -> Option<TurnRule>
-    ensures { result ≡ rule_of number }
-{
-    match number {
-        1 => Some(TurnRule::Xy),
-        2 => Some(TurnRule::WestFirst),
-        3 => Some(TurnRule::NorthLast),
-        4 => Some(TurnRule::NegativeFirst),
-        _ => None,
-    }
 }
 
 // The grid that a head asks for.
@@ -54,7 +41,7 @@ fn sizes_in(head: &Head) -> GridSizes
 // The head of a plan, if it is accepted.
 fn own_head(plan: &[u8]) -> Result<HeadNumbers, LoadFault>
     ensures value { result ≡ own_head plan.now }
-    ensures accepted { IfOk result (λ h. IsAccepted h) }
+    ensures accepted { IfOk result IsAccepted }
 {
     let numbers = read_head(plan)?;
     accepted_head(plan, sizes_in(&numbers.head()))
@@ -67,8 +54,8 @@ fn blank_grid(heap: Global, numbers: &HeadNumbers) -> Result<Grid<Mesh>, AllocEr
     ensures blank { IfOk result (λ g. BlankTables (meaning_of g.layout).links numbers.now.lanes.value numbers.now.depth.value numbers.now.capacity.value g.tables) }
 {
     let head = numbers.head();
-    // what is refused by a mesh or a grid is refused in a head: no case is left but want of memory
-    let rule = rule_of(head.rule).unwrap();
+    // an accepted head asks for a mesh and a grid that can be made, so only memory can be wanting
+    let rule = rule_numbered(head.rule).unwrap();
     let mesh = Mesh::new(rule, head.width, head.height).unwrap();
     match Grid::blank(heap, mesh, head.lanes, head.depth, head.capacity) {
         Ok(grid) => Ok(grid),
@@ -77,21 +64,53 @@ fn blank_grid(heap: Global, numbers: &HeadNumbers) -> Result<Grid<Mesh>, AllocEr
     }
 }
 
-/// The verdict on the first 4096 bytes of a plan, which is loaded on a blank grid of its own: the mesh of its rule, width and height, with its
-/// lanes, depth and capacity.
-///
-/// Fails only where there is no memory for the grid's tables.
-pub fn check(heap: Global, plan: &[u8]) -> Result<Verdict, AllocError>
-    ensures { IfOk result (λ verdict. verdict ≡ verdict_of (take 4096 plan.now)) }
+// Why a plan has no summary.
+#[derive(Clone, Copy)]
+enum NoSummary {
+    // It does not load.
+    Fault(LoadFault),
+    // There is no memory for the tables of its grid.
+    OutOfMemory,
+}
+
+impl From<LoadFault> for NoSummary {
+    ghost from_gives = { λ fault e. e ≡ Fault fault };
+
+    fn from(fault: LoadFault) -> NoSummary {
+        NoSummary::Fault(fault)
+    }
+}
+
+impl From<AllocError> for NoSummary {
+    ghost from_gives = { λ _ e. e ≡ OutOfMemory };
+
+    fn from(_refused: AllocError) -> NoSummary {
+        NoSummary::OutOfMemory
+    }
+}
+
+// What the grid that a plan asks for bears once the plan is loaded.
+fn summed(heap: Global, plan: &[u8]) -> Result<Summary, NoSummary>
+    ensures { Sums plan.now result }
 {
-    let plan = first_bytes(plan);
-    let head = match own_head(plan) {
-        Ok(head) => head,
-        Err(fault) => return Ok(Err(fault)),
-    };
+    let head = own_head(plan)?;
     let mut grid = blank_grid(heap, &head)?;
-    match load(&mut grid, plan) {
-        Ok(_) => Ok(Ok(summary(&grid))),
-        Err(fault) => Ok(Err(fault)),
+    load(&mut grid, plan)?;
+    Ok(summary(&grid))
+}
+
+/// The verdict on a plan, which is loaded on a blank grid of its own: the mesh of its rule, width and height, with its lanes, depth and capacity.
+/// Only its first 4096 bytes are looked at; no verdict rests on a later one.
+///
+/// Fails only where there is no memory for the tables of the grid that an accepted head asks for.
+pub fn check(heap: Global, plan: &[u8]) -> Result<Verdict, AllocError>
+    ensures verdict { IfOk result (λ verdict. verdict ≡ verdict_of (take LIMIT plan.now)) }
+    ensures whole { IfOk result (λ verdict. verdict ≡ verdict_of plan.now) }
+    ensures starved { IfErr result (λ _. IsOk (own_head (take LIMIT plan.now))) }
+{
+    match summed(heap, first_bytes(plan)) {
+        Ok(summary) => Ok(Ok(summary)),
+        Err(NoSummary::Fault(fault)) => Ok(Err(fault)),
+        Err(NoSummary::OutOfMemory) => Err(AllocError),
     }
 }

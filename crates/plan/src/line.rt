@@ -1,12 +1,11 @@
 // The line that tells a verdict.
 ghost use Rattle.std.specs.Prelude.{◌≡◌, ◌≤◌, ◌+◌, ◌++◌, length, Some, IsOk, IfOk};
 ghost use Rattle.plan.specs.Buffers.{fitted, Puts};
-ghost use Rattle.plan.specs.Lines.{byte_refusal, byte_place, layer_of, record_of, refusal_in, place_in, field_text, fault_text, summary_text, verdict_text, line_text};
+ghost use Rattle.plan.specs.Lines.{layer_of, record_of, refusal_in, place_in, field_text, fault_text, summary_text, verdict_text, line_text};
 
 use crate::buffer::put;
 use crate::fault::LoadFault;
 use arrayvec::ArrayString;
-use codec::number::ByteFault;
 use itoa::Buffer;
 use refusals::refusal::Refusal;
 use std::fmt;
@@ -27,25 +26,6 @@ pub const LONGEST_LINE: usize = 90;
 
 // The text of a line.
 type Text = ArrayString<LONGEST_LINE>;
-
-// Why no number can be read.
-fn byte_refusal(fault: ByteFault) -> Refusal
-    ensures { result ≡ byte_refusal fault }
-{
-    match fault {
-        ByteFault::Cut(_) => Refusal::NumberCut,
-        ByteFault::Form(_) => Refusal::NumberForm,
-    }
-}
-
-// The byte at which the number starts that cannot be read.
-fn byte_place(fault: ByteFault) -> usize
-    ensures { result ≡ byte_place fault }
-{
-    match fault {
-        ByteFault::Cut(place) | ByteFault::Form(place) => place,
-    }
-}
 
 // Writes a blank and a number, or a dash where there is none.
 fn push_field(text: &mut Text, field: Option<usize>)
@@ -90,8 +70,8 @@ impl LoadFault {
         ensures { result ≡ refusal_in self.now }
     {
         match self {
-            LoadFault::HeadBytes(fault) => byte_refusal(*fault),
-            LoadFault::RecordBytes(fault) => byte_refusal(fault.fault),
+            LoadFault::HeadBytes(fault) => fault.refusal(),
+            LoadFault::RecordBytes(fault) => fault.fault.refusal(),
             LoadFault::Plan(fault) => fault.refusal,
             LoadFault::Grid(fault) => fault.fault.refusal,
         }
@@ -102,8 +82,8 @@ impl LoadFault {
         ensures { result ≡ place_in self.now }
     {
         match self {
-            LoadFault::HeadBytes(fault) => Some(byte_place(*fault)),
-            LoadFault::RecordBytes(fault) => Some(byte_place(fault.fault)),
+            LoadFault::HeadBytes(fault) => Some(fault.place()),
+            LoadFault::RecordBytes(fault) => Some(fault.fault.place()),
             LoadFault::Plan(fault) => Some(fault.place),
             LoadFault::Grid(fault) => fault.fault.hop,
         }

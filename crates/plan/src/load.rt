@@ -2,7 +2,8 @@
 ghost use Rattle.std.specs.Prelude.{◌≡◌, ◌≤◌, length, take, IfOk, MatchResult};
 ghost use Rattle.model.specs.Calls.{declined, done};
 ghost use Rattle.grid.specs.Makes.{Edits};
-ghost use Rattle.codec.specs.Records.{behind, hops_read, hops_in, record_at, entry_of, ReadsRecord};
+ghost use Rattle.codec.specs.Sequences.{behind};
+ghost use Rattle.codec.specs.Records.{hops_read, hops_in, record_at, entry_of, ReadsRecord};
 ghost use Rattle.plan.specs.Loads.{accepted_head, sizes_of, opening_of, Loads};
 ghost use Rattle.plan.specs.RoundTrips.{WrittenBack};
 

@@ -4,8 +4,10 @@ ghost use Rattle.std.specs.List.{list_all};
 ghost use Rattle.arrayvec.specs.ArrayVec.{array_vec_len};
 ghost use Rattle.routes.specs.Routes.{hops_of, stream_of};
 ghost use Rattle.codec.specs.Numbers.{number_bytes};
-ghost use Rattle.codec.specs.Records.{hop_number, numbers_bytes};
-ghost use Rattle.plan.specs.Plans.{head_numbers, record_numbers};
+ghost use Rattle.codec.specs.Sequences.{numbers_bytes};
+ghost use Rattle.codec.specs.Records.{hop_number};
+ghost use Rattle.plan.specs.Plans.{stream_numbers};
+ghost use Rattle.codec.specs.Heads.{head_numbers};
 
 use arrayvec::ArrayVec;
 use codec::head::Head;
@@ -46,7 +48,7 @@ fn put_numbers(plan: &mut PlanBytes, numbers: &[u16])
 }
 
 // Writes the head of a plan of so many streams.
-#[tactic(auto, unfolding(crate::specs::Plans::head_numbers))]
+#[tactic(auto, unfolding(codec::specs::Heads::head_numbers))]
 pub(crate) fn put_head(plan: &mut PlanBytes, head: &Head, count: u16)
     requires { length plan.old.items + length (numbers_bytes (head_numbers head.now count)) ≤ 3530 }
     ensures { plan.new.items ≡ plan.old.items ++ numbers_bytes (head_numbers head.now count) }
@@ -84,11 +86,11 @@ fn put_hops(plan: &mut PlanBytes, hops: &[Hop])
 }
 
 // Writes the record of a stream.
-#[tactic(auto, unfolding(crate::specs::Plans::record_numbers))]
+#[tactic(auto, unfolding(codec::specs::Records::record_numbers))]
 pub(crate) fn put_record(plan: &mut PlanBytes, number: u16, stream: &Stream)
-    requires room { length plan.old.items + length (numbers_bytes (record_numbers (number, stream_of stream.now))) ≤ 3530 }
+    requires room { length plan.old.items + length (numbers_bytes (stream_numbers (number, stream_of stream.now))) ≤ 3530 }
     requires small { list_all (λ h. nat_le (hop_number h) 65535) (hops_of stream.now.route) ≡ true }
-    ensures { plan.new.items ≡ plan.old.items ++ numbers_bytes (record_numbers (number, stream_of stream.now)) }
+    ensures { plan.new.items ≡ plan.old.items ++ numbers_bytes (stream_numbers (number, stream_of stream.now)) }
 {
     let request = stream.request;
     let hops = stream.route.hops();

@@ -21,13 +21,13 @@ use Rattle.grid.specs.Makes.{Same, Makes}
 use Rattle.grid.specs.Blank.{BlankTables}
 use Rattle.grid.specs.Seeks.{SeekFindsIn}
 use Rattle.codec.specs.Records.{Entry}
-use Rattle.plan.specs.Loads.{loading_on}
+use Rattle.plan.specs.Loads.{loading, loading_on}
 use Rattle.runs.specs.declared.call.Call.{Call}
 use Rattle.runs.specs.declared.call.Call.TheVariants.{Open, Seek, Close, Send, Step, Load}
 use Rattle.runs.specs.declared.call.Failure.{Failure}
 use Rattle.runs.specs.declared.call.Reply.{Reply}
 use Rattle.runs.specs.Calls.{StandsFor, seek_reply, load_reply, Shown, Answers, MakesOpenings, MakesLoad, MakesCall}
-use Rattle.runs.specs.Runs.{Conditions, setting_in, Continues, then_opened, loading_in, loading_after, LoadContinues, CallContinues, LeadsTo, LeftBy}
+use Rattle.runs.specs.Runs.{Conditions, setting_in, Continues, then_opened, sizes, loading_after, LoadContinues, CallContinues, LeadsTo, LeftBy}
 use Rattle.runs.proofs.Showing.{length-slots_after}
 
 module _ {M V : Type 0} (R : Conditions M V) where
@@ -71,9 +71,9 @@ module _ {M V T : Type 0} (R : Conditions M V) where
     -- loading a plan comes to what it comes to after the past
     loading_is : Shown t xs' → (plan : List ℕ) → loading_on R.layout t plan ≡ loading_after R past plan
     loading_is shown plan =
-        ap (λ s. loading_in R.layout s.lanes s.depth t.capacity (outline t) plan) left.set_so
-        ∙ ap (λ capacity. loading_in R.layout R.lanes R.depth capacity (outline t) plan) left.has_capacity
-        ∙ ap (λ g. loading_in R.layout R.lanes R.depth R.capacity g plan) (outline_is shown)
+        ap (λ s. loading R.layout (sizes s.lanes s.depth t.capacity) (outline t) plan) left.set_so
+        ∙ ap (λ capacity. loading R.layout (sizes R.lanes R.depth capacity) (outline t) plan) left.has_capacity
+        ∙ ap (λ g. loading R.layout (sizes R.lanes R.depth R.capacity) g plan) (outline_is shown)
 
     module _ (xs'' : List T) (t' : Tables) where
       module _ (c : GridCall T) (a : Answer T) (makes : Makes R.layout t xs' c a t' xs'') where

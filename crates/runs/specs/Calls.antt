@@ -1,5 +1,6 @@
 -- Calls and answers as those of the grid in words.
-use Rattle.std.specs.Prelude.{◌≡◌, ℕ, List, [], ◌∷◌, Ok, Err, Result, vec_items}
+use Rattle.std.specs.Prelude.{◌≡◌, ℕ, List, [], ◌∷◌, Ok, Err, Option, Result, vec_items}
+use Rattle.refusals.specs.declared.refusal.Refusal.{Refusal}
 use Rattle.layouts.specs.Layout.{Meaning}
 use Rattle.routes.specs.declared.declined.Declined.{Declined}
 use Rattle.routes.specs.declared.stream.Request.{Request}
@@ -13,6 +14,7 @@ use Rattle.grid.specs.Makes.{step_answer, Same, Makes}
 use Rattle.grid.specs.Seeks.{SeekFindsIn}
 use Rattle.codec.specs.Records.{Entry}
 use Rattle.plan.specs.declared.fault.LoadFault.{LoadFault}
+use Rattle.plan.specs.Lines.{refusal_in, place_in}
 use Rattle.plan.specs.Loads.{loading_on}
 use Rattle.runs.specs.declared.call.Call.{Call}
 use Rattle.runs.specs.declared.call.Call.TheVariants.{Open, Seek, Close, Send, Step, Load}
@@ -20,6 +22,15 @@ use Rattle.runs.specs.declared.call.Failure.{Failure}
 use Rattle.runs.specs.declared.call.Failure.TheVariants as failure
 use Rattle.runs.specs.declared.call.Reply.{Reply}
 use Rattle.runs.specs.declared.call.Reply.TheVariants.{Done, Found, Stepped, Loaded}
+
+-- why a call is not done, or a plan not loaded to its end; and the hop or the byte to blame, where one is told
+abbrev pub failure_refusal : Failure → Refusal
+failure_refusal (failure.Declined d) = d.refusal
+failure_refusal (failure.NotLoaded f) = refusal_in f
+
+abbrev pub failure_place : Failure → Option ℕ
+failure_place (failure.Declined d) = d.hop
+failure_place (failure.NotLoaded f) = place_in f
 
 -- A reply stands for the answer to a call of the grid in words. That of a seek or a load stands for none: what these were in words
 -- is told by their history.

@@ -16,6 +16,7 @@ use Rattle.grid.specs.declared.tables.Tables.{Tables}
 use Rattle.grid.specs.Blank.{making_refusal}
 use Rattle.grid.specs.Views.{view, outline}
 use Rattle.codec.specs.Records.{Entry}
+use Rattle.codec.specs.declared.head.GridSizes.{GridSizes}
 use Rattle.plan.specs.Loads.{Loading, loading}
 use Rattle.runs.specs.declared.call.Call.{Call}
 use Rattle.runs.specs.declared.call.Call.TheVariants.{Open, Seek, Close, Send, Step, Load}
@@ -68,14 +69,13 @@ abbrev pub then_opened : {T : Type 0} → History T → List Entry → History T
 then_opened past [] = past
 then_opened past (e ∷ more) = then_opened (past ▸ opens e.stream e.request e.hops) more
 
--- what loading a plan comes to on a grid of these sizes, without items
-abbrev pub loading_in : Meaning → ℕ → ℕ → ℕ → Grid (Unit {0}) → List ℕ → Loading
-loading_in m lanes depth capacity g plan =
-    loading (on_layout m lanes depth capacity 0) (record { lanes = lanes; depth = depth; capacity = capacity }) g plan
+-- the sizes of the grid of a run
+abbrev pub sizes : ℕ → ℕ → ℕ → GridSizes
+sizes lanes depth capacity = record { lanes = lanes; depth = depth; capacity = capacity }
 
--- what it comes to after a past
+-- what loading a plan comes to after a past
 abbrev pub loading_after : {M V T : Type 0} → Conditions M V → History T → List ℕ → Loading
-loading_after R past plan = loading_in R.layout R.lanes R.depth R.capacity (without_items (after (setting_in R) past)) plan
+loading_after R past plan = loading R.layout (sizes R.lanes R.depth R.capacity) (without_items (after (setting_in R) past)) plan
 
 -- What a load answers after a past. It is as many openings as it opened records, also where a fault is behind them.
 abbrev pub LoadContinues : {M V T : Type 0} → Conditions M V → History T → List ℕ → Result (Reply T) Failure → History T → Type 0

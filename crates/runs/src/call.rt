@@ -1,6 +1,7 @@
 // Calls as values, and their answers.
 ghost use Rattle.std.specs.Prelude.{◌≡◌};
 ghost use Rattle.routes.specs.Checks.{no_hop};
+ghost use Rattle.runs.specs.Calls.{failure_refusal, failure_place};
 ghost use Rattle.runs.specs.declared.call.Failure.TheVariants as failure;
 
 use grid::step::Step;
@@ -48,6 +49,28 @@ pub enum Failure {
     Declined(Declined),
     /// The plan was not loaded to its end; the streams of the records ahead of the fault are open.
     NotLoaded(LoadFault),
+}
+
+impl Failure {
+    /// Why the call is not done, or not to its end.
+    pub fn refusal(&self) -> Refusal
+        ensures { result ≡ failure_refusal self.now }
+    {
+        match self {
+            Failure::Declined(declined) => declined.refusal,
+            Failure::NotLoaded(fault) => fault.refusal(),
+        }
+    }
+
+    /// The hop of the route that is to blame, or the byte of the plan, where one is told.
+    pub fn place(&self) -> Option<usize>
+        ensures { result ≡ failure_place self.now }
+    {
+        match self {
+            Failure::Declined(declined) => declined.hop,
+            Failure::NotLoaded(fault) => fault.place(),
+        }
+    }
 }
 
 impl From<Declined> for Failure {

@@ -6,13 +6,13 @@ use Rattle.codec.specs.declared.head.Head.{Head}
 use Rattle.grid.specs.declared.make.MakeError.{MakeError}
 use Rattle.grid.specs.declared.make.MakeError.TheVariants.{Refused}
 use Rattle.grid.specs.Blank.{making_refusal, NotMade}
-use Rattle.plan.proofs.Accepted.{Makeable, makeable, has_rule}
+use Rattle.plan.proofs.Accepted.{Makeable, makeable}
 use Rattle.plan.proofs.check.blank_grid.Goals as goal
 
 pub unwrap-rule-requires : goal.unwrap-rule-requires
 unwrap-rule-requires c =
     let made = makeable c.args.numbers.now c.requires in
-    rw (c.rule_of.ensures, c.head-head.ensures) (has_rule _ made.rule.0 made.rule.1)
+    rw (c.rule_numbered.ensures, c.head-head.ensures) made.rule
 
 -- a mesh in range is not refused
 not_refused : (P : Mesh → Type 0) (range : Type 0) (r : Result Mesh Refusal) → range → MatchResult r P (λ e. (range → ⊥) × (e ≡ MeshSize)) → IsOk r

@@ -1,18 +1,12 @@
-use Rattle.std.proofs.Common.{Ok, Err, sym, ◌∙◌}
-use Rattle.plan.proofs.Checking.{head_refused, verdict_is}
+use Rattle.std.proofs.Common.{ap, ◌∙◌, arith}
+use Rattle.plan.specs.Verdicts.{verdict_of}
+use Rattle.plan.proofs.Cutting.{verdict_cut}
 use Rattle.plan.proofs.check.check.Goals as goal
 
-pub returns-in-Err : goal.returns-in-Err
-returns-in-Err c = rw (sym c.first_bytes-plan.ensures) (head_refused _ _ (sym c.in-Err.is ∙ c.own_head.ensures.value))
+pub returns-in-Ok-clause-whole : goal.returns-in-Ok-clause-whole
+returns-in-Ok-clause-whole c = c.in-Ok.ensures ∙ (ap verdict_of c.first_bytes.ensures ∙ verdict_cut c.args.plan.now (λ k. omega (arith, c.type_inv.plan k)))
 
-pub returns-in-Ok-load : goal.returns-in-Ok-load
-returns-in-Ok-load c =
-    let grid = c.in_ok-grid.ensures in
-    let told = verdict_is _ c.in-Ok.head _ grid.blank _ c.load.new.grid.tables (Ok c.in-Ok-load.field-0) (sym c.in-Ok.is ∙ c.own_head.ensures.value) grid.layout c.in-Ok-load.ensures.made in
-    rw (sym c.first_bytes-plan.ensures, c.summary.ensures, c.load.ensures.layout) told
-
-pub returns : goal.returns
-returns c =
-    let grid = c.in_ok-grid.ensures in
-    rw (sym c.first_bytes-plan.ensures)
-    (verdict_is _ c.in-Ok.head _ grid.blank _ c.load.new.grid.tables (Err c.in-Err-load.fault) (sym c.in-Ok.is ∙ c.own_head.ensures.value) grid.layout c.in-Err-load.ensures.made)
+pub returns-in-Err-Fault-clause-whole : goal.returns-in-Err-Fault-clause-whole
+returns-in-Err-Fault-clause-whole c =
+    let told = rw c.in-Err-Fault.field-0-is at c.in-Err-Fault.ensures in
+    told ∙ (ap verdict_of c.first_bytes.ensures ∙ verdict_cut c.args.plan.now (λ k. omega (arith, c.type_inv.plan k)))

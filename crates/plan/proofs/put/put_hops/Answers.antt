@@ -1,6 +1,7 @@
 use Rattle.std.proofs.Common.{map, arith, length-append}
 use Rattle.routes.specs.Routes.{hop_on}
-use Rattle.codec.specs.Records.{hop_number, numbers_bytes}
+use Rattle.codec.specs.Sequences.{numbers_bytes}
+use Rattle.codec.specs.Records.{hop_number}
 use Rattle.plan.proofs.Putting.{room}
 use Rattle.plan.proofs.put.put_hops.Goals as goal
 

@@ -1,5 +1,6 @@
 use Rattle.std.proofs.Common.{◌++◌, map}
-use Rattle.codec.specs.Records.{hop_number, numbers_bytes}
+use Rattle.codec.specs.Sequences.{numbers_bytes}
+use Rattle.codec.specs.Records.{hop_number}
 use Rattle.plan.proofs.Putting.{ToWrite}
 use Rattle.plan.proofs.put.put_hops.Given as goal
 

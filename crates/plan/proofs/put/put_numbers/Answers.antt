@@ -1,5 +1,5 @@
 use Rattle.std.proofs.Common.{arith, length-append}
-use Rattle.codec.specs.Records.{numbers_bytes}
+use Rattle.codec.specs.Sequences.{numbers_bytes}
 use Rattle.plan.proofs.Putting.{room}
 use Rattle.plan.proofs.put.put_numbers.Goals as goal
 

@@ -1,5 +1,5 @@
 use Rattle.std.proofs.Common.{◌++◌}
-use Rattle.codec.specs.Records.{numbers_bytes}
+use Rattle.codec.specs.Sequences.{numbers_bytes}
 use Rattle.plan.proofs.Putting.{ToWrite}
 use Rattle.plan.proofs.put.put_numbers.Given as goal
 

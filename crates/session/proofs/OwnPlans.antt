@@ -1,5 +1,5 @@
 -- The plan of a grid, under its own head.
-use Rattle.std.proofs.Common.{◌≡◌, ℕ, zero, suc, ◌+◌, ◌≤◌, List, length, Some, None, Ok, Err, Option, refl, arith, length-append, subst, false, nat_lt}
+use Rattle.std.proofs.Common.{◌≡◌, ℕ, zero, suc, ◌+◌, ◌≤◌, List, length, Some, None, Ok, Option, Result, IsOk, refl, arith, length-append, subst, false, nat_lt}
 use Rattle.std.proofs.lemmas.Bool.Decides.{nat_tests}
 use Rattle.refusals.specs.declared.refusal.Refusal.{Refusal}
 use Rattle.layouts.specs.Layout.{Meaning, Lawful}
@@ -50,6 +50,6 @@ plan_written h m law t sound allowed fitting =
     let fits : nat_lt 3530 (length (plan_bytes h streams)) ≡ false = grind (arith, nat_tests, short) in
     rw (accepted, fits) refl
 
--- what is there to be put is not refused
-pub never_refused : (bytes before after : List ℕ) (e : Refusal) → Puts (Ok bytes) before (Err e) after → ⊥
-never_refused bytes before after e puts = let is = puts.0 in cc
+-- bytes that are there to be put are put
+pub is_put : (bytes before after : List ℕ) (r : Result ℕ Refusal) → Puts (Ok bytes) before r after → IsOk r
+is_put bytes before after r puts = rw puts.0

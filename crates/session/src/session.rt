@@ -141,7 +141,7 @@ impl Session {
                 Some(grid) => grid.load(plan.as_slice()),
                 None => Err(Mistake::NoGrid.into()),
             },
-            Command::Write => self.grid()?.plan(),
+            Command::Write => Ok(self.grid()?.plan()),
         }
     }
 

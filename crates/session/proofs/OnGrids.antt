@@ -7,6 +7,7 @@ use Rattle.layouts.specs.declared.turn_rule.TurnRule.{TurnRule}
 use Rattle.session.specs.declared.answer.Answer.TheVariants.{Accepted}
 use Rattle.session.specs.declared.at_hand.GridAtHand.{GridAtHand}
 use Rattle.session.specs.declared.session.Session.{Session}
+use Rattle.session.specs.Heads.{head_of}
 use Rattle.session.specs.Hands.{GridHand, Hand, grid_of, hand_of}
 use Rattle.session.specs.Sessions.{Response, NewGrid, MakesGrid, OnGrid}
 
@@ -17,7 +18,7 @@ on_grid Calls s g g' r is call = rw is ((g.grid.fits, g.all_slots), (grid_of g',
 
 -- a grid that is made is at hand, and so is its mesh
 pub grid_made : (before : Hand) (rule : TurnRule) (w h lanes depth capacity : ℕ) (mesh : Mesh) (g : GridAtHand) → InRange w h → meaning_of mesh ≡ mesh_meaning rule w h
-    → NewGrid (meaning_of mesh) lanes depth capacity (grid_of g)
+    → NewGrid (meaning_of mesh) (head_of rule w h lanes depth capacity) (grid_of g)
     → MakesGrid before rule w h lanes depth capacity (Ok Accepted) (hand_of (record { mesh = Some mesh; grid = Some g }))
 grid_made before rule w h lanes depth capacity mesh g range is new =
-    inl (range, (grid_of g, subst (λ m. NewGrid m lanes depth capacity (grid_of g)) is new, refl, ap (λ m. record { mesh = Some m; grid = Some (grid_of g) }) is))
+    inl (range, (grid_of g, subst (λ m. NewGrid m (head_of rule w h lanes depth capacity) (grid_of g)) is new, refl, ap (λ m. record { mesh = Some m; grid = Some (grid_of g) }) is))

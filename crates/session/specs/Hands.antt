@@ -5,11 +5,13 @@ use Rattle.layouts.specs.Layout.{Meaning}
 use Rattle.layouts.specs.Mesh.{meaning_of}
 use Rattle.lanes.specs.declared.strip.Strip.{Strip}
 use Rattle.grid.specs.declared.tables.Tables.{Tables}
+use Rattle.codec.specs.declared.head.Head.{Head}
 use Rattle.session.specs.declared.at_hand.GridAtHand.{GridAtHand}
 use Rattle.session.specs.declared.session.Session.{Session}
 
--- A grid with its item slots: the meaning of its layout, its tables, and the strips in the slots.
+-- A grid with its item slots: the head under which its plan is written, the meaning of its layout, its tables, and the strips in the slots.
 pub record GridHand : Type 0 where
+  pub head : Head
   pub layout : Meaning
   pub tables : Tables
   pub slots : List Strip
@@ -20,7 +22,7 @@ pub record Hand : Type 0 where
   pub grid : Option GridHand
 
 abbrev pub grid_of : GridAtHand → GridHand
-grid_of g = record { layout = meaning_of g.grid.layout; tables = g.grid.tables; slots = vec_items g.slots }
+grid_of g = record { head = g.head; layout = meaning_of g.grid.layout; tables = g.grid.tables; slots = vec_items g.slots }
 
 abbrev pub hand_of : Session → Hand
 hand_of s = record { mesh = option_map meaning_of s.mesh; grid = option_map grid_of s.grid }

@@ -1,5 +1,6 @@
 pub mod Texts
 pub mod Failures
 pub mod Measures
+pub mod Heads
 pub mod Hands
 pub mod Sessions

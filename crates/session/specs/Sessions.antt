@@ -25,6 +25,10 @@ use Rattle.grid.specs.Makes.{step_answer, hop_answer, Makes, Edits}
 use Rattle.grid.specs.declared.make.MakeError.{MakeError}
 use Rattle.grid.specs.Seeks.{Seeks}
 use Rattle.grid.specs.Blank.{making_refusal, BlankTables, NotMade}
+use Rattle.codec.specs.declared.head.Head.{Head}
+use Rattle.plan.specs.declared.fault.LoadFault.{LoadFault}
+use Rattle.plan.specs.Loads.{Loads}
+use Rattle.plan.specs.Plans.{plan_bytes}
 use Rattle.script.specs.declared.command.MeasureName.{MeasureName}
 use Rattle.script.specs.declared.command.MeasureName.TheVariants.{Total, Peak}
 use Rattle.grid.specs.declared.tables.Tables.{Tables}
@@ -34,11 +38,12 @@ use Rattle.script.specs.Reads.{Read}
 use Rattle.script.specs.Commands as command
 use Rattle.script.specs.Commands.{Instruction, command_of, NeedsMemory}
 use Rattle.session.specs.declared.answer.Answer.{Answer}
-use Rattle.session.specs.declared.answer.Answer.TheVariants.{Made, Ends, Turn, Accepted, Moved, Out, Fields, Route, Load, Count, Drain}
+use Rattle.session.specs.declared.answer.Answer.TheVariants.{Made, Ends, Turn, Accepted, Moved, Out, Fields, Route, Load, Count, Drain, Loaded, Written}
 use Rattle.session.specs.declared.failure.Failure.{Failure}
 use Rattle.session.specs.declared.failure.Failure.TheVariants as failure
 use Rattle.session.specs.declared.failure.LineFailure.{LineFailure}
 use Rattle.session.specs.Failures.{making_failure}
+use Rattle.session.specs.Heads.{head_of}
 use Rattle.session.specs.Hands.{GridHand, Hand}
 
 -- the response to a command: its answer, or why it has none
@@ -78,18 +83,19 @@ by_mesh f (Some m) = f m
 abbrev pub IsComplete : GridHand → Type 0
 IsComplete g = (g.layout.links ≡ g.tables.lanes.size.links) × (length g.slots ≡ slot_count g.tables.lanes.size)
 
--- A blank grid on a mesh, with a slot for each item that its lanes can contain. What the slots hold is left open.
-pub record NewGrid (m : Meaning) (lanes depth capacity : ℕ) (g : GridHand) : Type 0 where
-  pub allowed : making_refusal lanes depth capacity ≡ None
+-- A blank grid on a mesh, of the sizes in its head, with a slot for each item that its lanes can contain. What the slots hold is left open.
+pub record NewGrid (m : Meaning) (head : Head) (g : GridHand) : Type 0 where
+  pub allowed : making_refusal head.lanes head.depth head.capacity ≡ None
+  pub head_is : g.head ≡ head
   pub layout_is : g.layout ≡ m
-  pub blank : BlankTables m.links lanes depth capacity g.tables
+  pub blank : BlankTables m.links head.lanes head.depth head.capacity g.tables
   pub enough : IsComplete g
 
 -- A grid is made on a mesh, and both are at hand; or its mesh is refused, or the grid, or there is no memory, and all is
 -- as before. Memory has to hold the tables, the slots and the scratch of seeks, so also a grid that nothing declines may find none.
 abbrev pub MakesGrid : Hand → TurnRule → ℕ → ℕ → ℕ → ℕ → ℕ → Response → Hand → Type 0
 MakesGrid before rule w h lanes depth capacity r after =
-    (InRange w h × ((g : GridHand) × NewGrid (mesh_meaning rule w h) lanes depth capacity g
+    (InRange w h × ((g : GridHand) × NewGrid (mesh_meaning rule w h) (head_of rule w h lanes depth capacity) g
     × (r ≡ Ok Accepted) × (after ≡ record { mesh = Some (mesh_meaning rule w h); grid = Some g })))
     ⊎ ((InRange w h × ((e : MakeError) × NotMade lanes depth capacity e × (r ≡ Err (making_failure e)) × (after ≡ before)))
     ⊎ ((InRange w h → ⊥) × (r ≡ refused MeshSize) × (after ≡ before)))
@@ -114,26 +120,30 @@ abbrev pub stepped : Step Strip → Answer
 stepped (step.Moved n) = Moved n
 stepped (step.Out n x) = Out n x
 
+-- what no call changes of a grid: its head and its layout
+abbrev pub IsAsMade : GridHand → GridHand → Type 0
+IsAsMade g g' = (g'.head ≡ g.head) × (g'.layout ≡ g.layout)
+
 -- The calls, each by what it answers and leaves of the grid. One that is lent no slots leaves them.
 abbrev pub Opens : ℕ → Request → List Hop → GridHand → Response → GridHand → Type 0
 Opens n q hops g r g' =
     (a : Result (Unit {0}) Declined) × Edits g.layout g.tables (opens n q hops) (hop_answer a) g'.tables
-    × (g'.layout ≡ g.layout) × (g'.slots ≡ g.slots) × (r ≡ ended a)
+    × IsAsMade g g' × (g'.slots ≡ g.slots) × (r ≡ ended a)
 
 abbrev pub Closes : ℕ → GridHand → Response → GridHand → Type 0
 Closes n g r g' =
     (a : Result (Unit {0}) Refusal) × Edits g.layout g.tables (closes n) (answer_of (λ _. done) a) g'.tables
-    × (g'.layout ≡ g.layout) × (g'.slots ≡ g.slots) × (r ≡ response_by (λ _. Accepted) a)
+    × IsAsMade g g' × (g'.slots ≡ g.slots) × (r ≡ response_by (λ _. Accepted) a)
 
 abbrev pub Sends : ℕ → Strip → GridHand → Response → GridHand → Type 0
 Sends n x g r g' =
     (a : Result (Unit {0}) Refusal) × Makes g.layout g.tables g.slots (sends n x) (answer_of (λ _. done) a) g'.tables g'.slots
-    × (g'.layout ≡ g.layout) × (r ≡ response_by (λ _. Accepted) a)
+    × IsAsMade g g' × (r ≡ response_by (λ _. Accepted) a)
 
 abbrev pub Steps : Hop → GridHand → Response → GridHand → Type 0
 Steps h g r g' =
     (a : Result (Step Strip) Refusal) × Makes g.layout g.tables g.slots (steps h.link h.lane) (answer_of step_answer a) g'.tables g'.slots
-    × (g'.layout ≡ g.layout) × (r ≡ response_by stepped a)
+    × IsAsMade g g' × (r ≡ response_by stepped a)
 
 -- a route in a table of 24 hops, which are 0.0 behind its own
 abbrev pub routed : List Hop → Answer
@@ -173,7 +183,25 @@ SeeksByName Peak m t n q a t' = Seeks peak m t n q (values_needed m.links t.lane
 abbrev pub Searches : ℕ → Request → MeasureName → GridHand → Response → GridHand → Type 0
 Searches n q measure g r g' =
     (a : Result ℕ Declined) × SeeksByName measure g.layout g.tables n q a g'.tables
-    × (g'.layout ≡ g.layout) × (g'.slots ≡ g.slots) × (r ≡ sought n g' a)
+    × IsAsMade g g' × (g'.slots ≡ g.slots) × (r ≡ sought n g' a)
+
+-- what a load answers: how many records its plan has, or the fault
+abbrev pub loaded : Result ℕ LoadFault → Response
+loaded (Ok count) = Ok (Loaded count)
+loaded (Err f) = Err (failure.NotLoaded f)
+
+-- A load is lent no slots. The records ahead of a fault stay open.
+abbrev pub LoadsPlan : List ℕ → GridHand → Response → GridHand → Type 0
+LoadsPlan plan g r g' =
+    (a : Result ℕ LoadFault) × Loads g.layout g.tables plan a g'.tables × IsAsMade g g' × (g'.slots ≡ g.slots) × (r ≡ loaded a)
+
+-- a plan in a table of 3530 bytes, which are 0 behind its own
+abbrev pub written : List ℕ → Answer
+written plan = Written (plan ++ drop (length plan) (replicate 3530 0)) (length plan)
+
+-- the plan of the open streams, under the grid's head
+abbrev pub plan_of : GridHand → Response
+plan_of g = Ok (written (plan_bytes g.head (streams_in g.tables)))
 
 -- ---- commands and lines
 
@@ -195,6 +223,8 @@ Answers before (command.link_load k) r after = (r ≡ by_grid (link_load k) befo
 Answers before (command.count h) r after = (r ≡ by_grid (count h) before.grid) × (after ≡ before)
 Answers before command.items r after = (r ≡ by_grid items before.grid) × (after ≡ before)
 Answers before command.drains r after = (r ≡ by_grid lanes before.grid) × (after ≡ before)
+Answers before (command.loads plan) r after = OnGrid (LoadsPlan plan) before.mesh before.grid r after
+Answers before command.writes r after = (r ≡ by_grid plan_of before.grid) × (after ≡ before)
 
 -- the reply to a line: the answer to its command, or the failure with the line's number
 abbrev pub Reply : Type 0

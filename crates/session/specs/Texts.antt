@@ -1,11 +1,13 @@
 -- How answers and failures are written.
-use Rattle.std.specs.Prelude.{ℕ, List, ◌++◌, min, take, flat_map, Some, None, codes, decimal, Option}
+use Rattle.std.specs.Prelude.{ℕ, ◌/◌, ◌%◌, true, List, [], ◌∷◌, ◌++◌, min, take, flat_map, Some, None, codes, decimal, Option}
+use Rattle.std.specs.Fmt.{digit_glyph}
 use Rattle.refusals.specs.Numbers.{refusal_number}
 use Rattle.layouts.specs.Turns.{word_of}
 use Rattle.routes.specs.declared.hop.Hop.{Hop}
+use Rattle.plan.specs.Lines.{fault_text}
 use Rattle.script.specs.Mistakes.{text_of}
 use Rattle.session.specs.declared.answer.Answer.{Answer}
-use Rattle.session.specs.declared.answer.Answer.TheVariants.{Made, Ends, Turn, Accepted, Moved, Out, Fields, Route, Load, Count, Drain}
+use Rattle.session.specs.declared.answer.Answer.TheVariants.{Made, Ends, Turn, Accepted, Moved, Out, Fields, Route, Load, Count, Drain, Loaded, Written}
 use Rattle.session.specs.declared.failure.Failure.{Failure}
 use Rattle.session.specs.declared.failure.Failure.TheVariants as failure
 use Rattle.session.specs.declared.failure.LineFailure.{LineFailure}
@@ -19,8 +21,12 @@ refused_text n (Some k) = codes "refused " ++ (decimal n ++ (codes " hop " ++ de
 abbrev pub hop_text : Hop → List ℕ
 hop_text h = codes " " ++ (decimal h.link ++ (codes "." ++ decimal h.lane))
 
+-- a byte in base sixteen, by two capital digits
+abbrev pub byte_text : ℕ → List ℕ
+byte_text b = digit_glyph true (b / 16) ∷ (digit_glyph true (b % 16) ∷ [])
+
 -- ok TILES LINKS, ok START END, a turn's word, ok, moved STREAM, out STREAM FRAGMENT BAND ROW, ok FROM TO DEMAND,
--- ok HOPS HOP.., ok LOAD, ok COUNT, or drain LINKS LANES
+-- ok HOPS HOP.., ok LOAD, ok COUNT, drain LINKS LANES, ok RECORDS, or ok BYTES HEX
 abbrev pub answer_text : Answer → List ℕ
 answer_text (Made tiles links) = codes "ok " ++ (decimal tiles ++ (codes " " ++ decimal links))
 answer_text (Ends start end) = codes "ok " ++ (decimal start ++ (codes " " ++ decimal end))
@@ -33,11 +39,14 @@ answer_text (Route table count) = codes "ok " ++ (decimal count ++ flat_map hop_
 answer_text (Load n) = codes "ok " ++ decimal n
 answer_text (Count n) = codes "ok " ++ decimal n
 answer_text (Drain links lanes) = codes "drain " ++ (decimal links ++ (codes " " ++ decimal lanes))
+answer_text (Loaded records) = codes "ok " ++ decimal records
+answer_text (Written table count) = codes "ok " ++ (decimal count ++ (codes " " ++ flat_map byte_text (take (min count 3530) table)))
 
--- why the call was declined, or error LINE: what is wrong
+-- why the call was declined, error LINE: what is wrong, or fault LAYER RECORD REFUSAL PLACE
 abbrev pub failed_text : ℕ → Failure → List ℕ
 failed_text line (failure.Declined declined) = refused_text (refusal_number declined.refusal) declined.hop
 failed_text line (failure.Mistake mistake) = codes "error " ++ (decimal line ++ (codes ": " ++ text_of mistake))
+failed_text line (failure.NotLoaded fault) = fault_text fault
 
 abbrev pub failure_text : LineFailure → List ℕ
 failure_text f = failed_text f.line f.failure

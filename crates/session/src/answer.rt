@@ -1,6 +1,6 @@
 // The planner's answers, and how each is written.
 ghost use Rattle.std.specs.Prelude.{Some, flat_map};
-ghost use Rattle.session.specs.Texts.{hop_text, answer_text};
+ghost use Rattle.session.specs.Texts.{hop_text, byte_text, answer_text};
 
 use lanes::strip::Strip;
 use layouts::turn::Turn;
@@ -33,6 +33,10 @@ pub enum Answer {
     Count(usize),
     /// The lanes of so many links, so many to each, are to be stepped in turn until none will step.
     Drain(u16, u16),
+    /// A plan was loaded: how many records it has.
+    Loaded(usize),
+    /// The bytes of a plan, at the front of a table of as many as a plan can have, and their count.
+    Written([u8; 3530], usize),
 }
 
 // Hops, each behind a blank.
@@ -45,6 +49,21 @@ impl fmt::Display for HopList<'_> {
     fn fmt<W: fmt::Write>(&self, f: &mut fmt::Formatter<W>) -> fmt::Result {
         for Hop { link, lane } in self.0 {
             write!(f, " {link}.{lane}")?;
+        }
+        Ok(())
+    }
+}
+
+// Bytes in base sixteen.
+#[derive(Clone, Copy)]
+struct ByteList<'a>(&'a [u8]);
+
+impl fmt::Display for ByteList<'_> {
+    ghost output = { λ list. Some (flat_map byte_text list.0.now) };
+
+    fn fmt<W: fmt::Write>(&self, f: &mut fmt::Formatter<W>) -> fmt::Result {
+        for &byte in self.0 {
+            write!(f, "{byte:02X}")?;
         }
         Ok(())
     }
@@ -81,6 +100,10 @@ impl fmt::Display for Answer {
             Answer::Load(load) => write!(f, "ok {load}"),
             Answer::Count(count) => write!(f, "ok {count}"),
             Answer::Drain(links, lanes) => write!(f, "drain {links} {lanes}"),
+            Answer::Loaded(records) => write!(f, "ok {records}"),
+            Answer::Written(plan, count) => {
+                write!(f, "ok {count} {}", ByteList(&plan[..(*count).min(3530)]))
+            }
         }
     }
 }

@@ -6,15 +6,21 @@ ghost use Rattle.search.specs.Scales.{choice, total, peak};
 ghost use Rattle.search.specs.Finds.{values_needed, marks_needed};
 ghost use Rattle.grid.specs.declared.make.MakeError.TheVariants.{OutOfMemory};
 ghost use Rattle.grid.specs.Blank.{NotMade};
+ghost use Rattle.plan.specs.Loads.{sizes_of};
+ghost use Rattle.plan.specs.Verdicts.{sizes_in};
 ghost use Rattle.session.specs.Measures.{scale_of};
+ghost use Rattle.session.specs.Heads.{IsOfMesh, IsAllowed};
 
 use crate::answer::Answer;
 use crate::failure::Failure;
+use codec::head::Head;
 use grid::grid::Grid;
 use grid::make::MakeError;
 use grid::step::Step;
 use lanes::strip::Strip;
 use layouts::mesh::Mesh;
+use plan::load::load;
+use plan::write::write;
 use routes::hop::Hop;
 use routes::stream::Request;
 use script::command::MeasureName;
@@ -24,16 +30,19 @@ use search::scratch::{marks_needed, values_needed};
 use search::total::Total;
 use std::alloc::Global;
 
-/// A grid with a slot for each item that its lanes can contain, and the scratch of seeks.
+/// A grid with a slot for each item that its lanes can contain, the scratch of seeks, and the head of its plans.
 #[derive(Drop)]
 pub(crate) struct GridAtHand {
     pub(crate) grid: Grid<Mesh>,
     pub(crate) slots: Vec<Strip>,
     values: Vec<Either<u32, (u16, u16)>>,
     marks: Vec<u16>,
+    head: Head,
     ghost all_slots: { length (vec_items slots) ≡ slot_count grid.tables.lanes.size },
     ghost all_values: { length (vec_items values) ≡ values_needed grid.tables.lanes.size.links grid.tables.lanes.size.lanes },
     ghost all_marks: { length (vec_items marks) ≡ marks_needed grid.tables.lanes.size.links grid.tables.lanes.size.lanes },
+    ghost allowed: { IsAllowed head },
+    ghost fitting: { sizes_in head ≡ sizes_of grid.tables },
 }
 
 // A vector of so many copies of an item.
@@ -59,19 +68,14 @@ fn measure_of(name: MeasureName) -> Choice<Total, Peak>
 
 impl GridAtHand {
     ghost use Rattle.session.specs.Hands.{grid_of};
-    ghost use Rattle.session.specs.Sessions.{NewGrid, Opens, Searches, Closes, Sends, Steps, fields, route, link_load, count, items, lanes};
+    ghost use Rattle.session.specs.Sessions.{NewGrid, Opens, Searches, Closes, Sends, Steps, LoadsPlan, fields, route, link_load, count, items, lanes, plan_of};
 
-    // A blank grid with its slots and scratch.
-    pub(crate) fn blank(
-        heap: Global,
-        mesh: Mesh,
-        lanes: u16,
-        depth: u16,
-        capacity: u16,
-    ) -> Result<GridAtHand, MakeError>
-        ensures { MatchResult result (λ g. NewGrid (meaning_of mesh) lanes depth capacity (grid_of g)) (λ e. NotMade lanes depth capacity e) }
+    // A blank grid of the sizes in its head, with its slots and scratch.
+    pub(crate) fn blank(heap: Global, mesh: Mesh, head: Head) -> Result<GridAtHand, MakeError>
+        requires { IsOfMesh head }
+        ensures { MatchResult result (λ g. NewGrid (meaning_of mesh) head (grid_of g)) (λ e. NotMade head.lanes head.depth head.capacity e) }
     {
-        let grid = Grid::blank(heap, mesh, lanes, depth, capacity)?;
+        let grid = Grid::blank(heap, mesh, head.lanes, head.depth, head.capacity)?;
         let size = grid.size();
         let strip = Strip {
             fragment: 0,
@@ -87,6 +91,7 @@ impl GridAtHand {
                 values_needed(size.links(), size.lanes()),
             )?,
             marks: filled(heap, 0, marks_needed(size.links(), size.lanes()))?,
+            head,
         })
     }
 
@@ -128,6 +133,13 @@ impl GridAtHand {
     {
         self.grid.close(stream)?;
         Ok(Answer::Accepted)
+    }
+
+    // Loads a plan.
+    pub(crate) fn load(&mut self, plan: &[u8]) -> Result<Answer, Failure>
+        ensures { LoadsPlan plan.now (grid_of self.old) result (grid_of self.new) }
+    {
+        Ok(Answer::Loaded(load(&mut self.grid, plan)?))
     }
 
     // Sends a strip.
@@ -191,5 +203,15 @@ impl GridAtHand {
     {
         let size = self.grid.size();
         Answer::Drain(size.links(), size.lanes())
+    }
+
+    // The plan of the open streams.
+    pub(crate) fn plan(&self) -> Answer
+        ensures { Ok result ≡ plan_of (grid_of self.now) }
+    {
+        let mut plan = [0; 3530];
+        // the head is accepted, and the table is long enough
+        let count = write(&self.grid, &self.head, &mut plan).unwrap();
+        Answer::Written(plan, count)
     }
 }

@@ -6,6 +6,7 @@ ghost use Rattle.session.specs.Failures.{making_failure};
 ghost use Rattle.session.specs.Texts.{failure_text};
 
 use grid::make::MakeError;
+use plan::fault::LoadFault;
 use refusals::refusal::Refusal;
 use routes::declined::Declined;
 use script::mistake::Mistake;
@@ -18,6 +19,8 @@ pub enum Failure {
     Declined(Declined),
     /// What is wrong with the line.
     Mistake(Mistake),
+    /// Why a plan was not loaded.
+    NotLoaded(LoadFault),
 }
 
 // The conversions are written out, since the `From` that `thiserror` writes has no contract.
@@ -42,6 +45,14 @@ impl From<Mistake> for Failure {
 
     fn from(mistake: Mistake) -> Failure {
         Failure::Mistake(mistake)
+    }
+}
+
+impl From<LoadFault> for Failure {
+    ghost from_gives = { λ fault result. result ≡ failure.NotLoaded fault };
+
+    fn from(fault: LoadFault) -> Failure {
+        Failure::NotLoaded(fault)
     }
 }
 
@@ -78,6 +89,7 @@ impl fmt::Display for LineFailure {
                 }
             }
             Failure::Mistake(mistake) => write!(f, "error {line}: {mistake}"),
+            Failure::NotLoaded(fault) => write!(f, "{fault}"),
         }
     }
 }

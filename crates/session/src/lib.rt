@@ -4,4 +4,5 @@
 pub mod answer;
 mod at_hand;
 pub mod failure;
+mod head;
 pub mod session;

@@ -11,6 +11,7 @@ ghost use Rattle.session.specs.Sessions.{unloaded, Answers, Replies};
 use crate::answer::Answer;
 use crate::at_hand::GridAtHand;
 use crate::failure::{Failure, LineFailure};
+use crate::head::head_of;
 use layouts::layout::Layout;
 use layouts::mesh::Mesh;
 use routes::declined::Declined;
@@ -69,11 +70,12 @@ impl Session {
     }
 
     /// The answer to a command. A mesh or a grid that is made takes the place of the one at hand; with a grid its mesh is
-    /// at hand too. A refusal or a mistake leaves all at hand as it was.
+    /// at hand too. A refusal or a mistake leaves all at hand as it was; where a plan is not loaded, the records ahead of the fault
+    /// stay open.
     ///
     /// Which of equally good routes a seek takes is left open.
     ///
-    /// Refuses what `Mesh::new`, `judge` and the calls of a grid refuse. Where a mesh or a grid is wanted and none is at
+    /// Refuses what `Mesh::new`, `judge` and the calls of a grid refuse, and tells the fault where a plan is not loaded. Where a mesh or a grid is wanted and none is at
     /// hand, the mistake is `NoMesh` or `NoGrid`; where there is no memory for a grid, it is `OutOfMemory`.
     pub fn answer(&mut self, heap: Global, command: Command) -> Result<Answer, Failure>
         ensures { Answers (hand_of self.old) (instruction_of command) result (hand_of self.new) }
@@ -103,7 +105,8 @@ impl Session {
                 capacity,
             } => {
                 let mesh = Mesh::new(rule, width, height)?;
-                let grid = GridAtHand::blank(heap, mesh, lanes, depth, capacity)?;
+                let head = head_of(rule, width, height, lanes, depth, capacity);
+                let grid = GridAtHand::blank(heap, mesh, head)?;
                 self.mesh = Some(mesh);
                 self.grid = Some(grid);
                 Ok(Answer::Accepted)
@@ -134,6 +137,11 @@ impl Session {
             Command::Count(hop) => self.grid()?.count(hop),
             Command::Items => Ok(self.grid()?.items()),
             Command::Drain => Ok(self.grid()?.lanes()),
+            Command::Load(plan) => match &mut self.grid {
+                Some(grid) => grid.load(plan.as_slice()),
+                None => Err(Mistake::NoGrid.into()),
+            },
+            Command::Write => Ok(self.grid()?.plan()),
         }
     }
 

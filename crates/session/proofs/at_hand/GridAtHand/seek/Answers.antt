@@ -14,7 +14,7 @@ returns c =
       Ok c.in_ok-seek.field-0,
       seeks_by_name (meaning_of hand.grid.layout) hand.grid.tables _ c.args.stream c.args.request c.args.measure (Ok c.in_ok-seek.field-0)
           (rw (c.measure_of.ensures, values, marks) at sought.made),
-      ap meaning_of sought.layout,
+      (refl, ap meaning_of sought.layout),
       refl,
       c.route.ensures,
     )

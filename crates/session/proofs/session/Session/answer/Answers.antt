@@ -1,6 +1,6 @@
 use Rattle.std.proofs.Common.{vec_items}
 use Rattle.session.specs.Hands.{hand_of}
-use Rattle.session.specs.Sessions.{Opens, Searches, Closes, Sends, Steps}
+use Rattle.session.specs.Sessions.{Opens, Searches, Closes, Sends, Steps, LoadsPlan}
 use Rattle.session.proofs.OnGrids.{on_grid, grid_made}
 use Rattle.session.proofs.session.Session.answer.Goals as goal
 
@@ -9,7 +9,7 @@ returns-in-Grid c =
     let mesh = c.in_ok-mesh-in-Grid.ensures.value in
     rw c.in-Grid.is
     (grid_made (hand_of c.args.self.now) c.in-Grid.rule c.in-Grid.width c.in-Grid.height c.in-Grid.lanes c.in-Grid.depth c.in-Grid.capacity
-    c.in_ok-mesh-in-Grid.mesh c.in_ok-grid-in-Grid.grid mesh.0 mesh.1 c.in_ok-grid-in-Grid.ensures)
+    c.in_ok-mesh-in-Grid.mesh c.in_ok-grid-in-Grid.grid mesh.0 mesh.1 (rw c.head_of-head.ensures at c.in_ok-grid-in-Grid.ensures))
 
 pub returns-in-Some : goal.returns-in-Some
 returns-in-Some c =
@@ -33,3 +33,9 @@ returns-in-Some-grid-3 c =
 pub returns-in-Some-grid-4 : goal.returns-in-Some-grid-4
 returns-in-Some-grid-4 c =
     rw c.in-Step.is (on_grid (Steps c.in-Step.hop) c.args.self.now c.in-Some-grid-4.grid c.step.new.self c.step.result c.in-Some-grid-4.is c.step.ensures)
+
+pub returns-in-Some-grid-5 : goal.returns-in-Some-grid-5
+returns-in-Some-grid-5 c =
+    rw c.in-Load.is
+    (on_grid (LoadsPlan (vec_items c.in-Load.plan)) c.args.self.now c.in-Some-grid-5.grid c.load.new.self c.load.result c.in-Some-grid-5.is
+    (rw c.as_slice-in-Some-grid-5.ensures.value at c.load.ensures))

@@ -49,11 +49,6 @@ module _ (streams : ℕ → Option OpenStream) (k : ℕ) (told : List (ℕ × Op
         all = append_assoc told ((k, s) ∷ []) _ ∙ (ap (λ l. told ++ l) (sym (is_listed streams k (so_far.rest - 1) s is)) ∙ more_listed so_far.rest refl some);
       }
 
-  pub all_told : stream_count ≤ k → told ≡ open_streams streams
-  all_told over =
-      let none : so_far.rest ≡ 0 = omega (arith, so_far.split) in
-      sym (append-nil told) ∙ (ap (λ n. told ++ listed streams k n) (sym none) ∙ so_far.all)
-
 -- what an entry of a table of streams says
 pub entry_says : (table read : List (Option Stream)) (k at : ℕ) (d entry : Option Stream) → read ≡ table → at ≡ k → k < length table → get_or read at d ≡ entry
     → streams_of table k ≡ option_map stream_of entry

@@ -22,7 +22,7 @@ use Rattle.plan.specs.Loads.{Loading, accepted_head, sizes_of, opening_of, recor
 
 -- what the records that are left come to on the tables so far is what the whole comes to on those at the beginning
 pub record Left (m : Meaning) (start : Tables) (whole : Loading) (plan : List ℕ) (t : Tables) (k place n : ℕ) : Type 0 where
-  pub so : (r : Result ℕ LoadFault) (t' : Tables) → ComesTo m t (records_from (setting m t 0) plan (outline t) k place n) r t' → ComesTo m start whole r t'
+  pub gives : (r : Result ℕ LoadFault) (t' : Tables) → ComesTo m t (records_from (setting m t 0) plan (outline t) k place n) r t' → ComesTo m start whole r t'
 
 pub same : (t : Tables) → Same t t
 same t = record { lanes = refl; streams = refl; capacity = refl }
@@ -79,7 +79,7 @@ module _ (m : Meaning) (start : Tables) (whole : Loading) (plan : List ℕ) (t :
       → ComesTo m start whole (Err (fault.RecordBytes f)) t
   unfolding records_from
   cut_short zero f left some number is = absurd (omega arith)
-  cut_short (suc n) f left some number is = left.so _ t (rw (is, sym number) (refl, same t))
+  cut_short (suc n) f left some number is = left.gives _ t (rw (is, sym number) (refl, same t))
 
   -- the layout's meaning is the same all along
   module _ (now : Meaning) (stays : now ≡ m) (e : Entry) (t' : Tables) (n : ℕ) (left : Left m start whole plan t k place n) (is : record_at plan place ≡ Ok e) where
@@ -88,29 +88,29 @@ module _ (m : Meaning) (start : Tables) (whole : Loading) (plan : List ℕ) (t :
     turned_away f some number edits =
         let here = subst (λ x. Edits x t (opening_of e) (declined f.fault) t') stays edits in
         let n_is : n ≡ suc (n - 1) = omega arith in
-        left.so _ t' (rw (n_is, is, refused m t t' e.stream e.request e.hops f.fault here, sym number) (refl, here.made.declined refl))
+        left.gives _ t' (rw (n_is, is, refused m t t' e.stream e.request e.hops f.fault here, sym number) (refl, here.made.declined refl))
 
     pub let_on : (n' : ℕ) → n ≡ suc n' → Edits now t (opening_of e) done t' → Left m start whole plan t' (k + 1) e.next n'
     unfolding records_from
     let_on n' n_is edits = record {
-      so = λ r t'' more.
+      gives = λ r t'' more.
           let here = subst (λ x. Edits x t (opening_of e) done t') stays edits in
           let comes = subst (λ l. ComesTo m t' l r t'') (on_opened m t t' e.stream e.request e.hops here plan (k + 1) e.next n') more in
-          left.so r t'' (rw (n_is, is, opened m t t' e.stream e.request e.hops here) (comes.0, (t', here, comes.1)));
+          left.gives r t'' (rw (n_is, is, opened m t t' e.stream e.request e.hops here) (comes.0, (t', here, comes.1)));
     }
 
   pub trailing : (n : ℕ) → Left m start whole plan t k place n → n ≡ 0 → place < length plan
       → ComesTo m start whole (Err (fault.Plan (record { refusal = TrailingBytes; place = place }))) t
   unfolding records_from
-  trailing n left none more = let test : nat_lt place (length plan) ≡ true = grind (arith, nat_tests) in left.so _ t (rw (none, test) (refl, same t))
+  trailing n left none more = let test : nat_lt place (length plan) ≡ true = grind (arith, nat_tests) in left.gives _ t (rw (none, test) (refl, same t))
 
   pub finished : (n : ℕ) → Left m start whole plan t k place n → n ≡ 0 → length plan ≤ place → ComesTo m start whole (Ok k) t
   unfolding records_from
-  finished n left none over = let test : nat_lt place (length plan) ≡ false = grind (arith, nat_tests) in left.so _ t (rw (none, test) (refl, same t))
+  finished n left none over = let test : nat_lt place (length plan) ≡ false = grind (arith, nat_tests) in left.gives _ t (rw (none, test) (refl, same t))
 
 -- nothing is opened yet
 pub begun : (m : Meaning) (start : Tables) (plan : List ℕ) (h : HeadNumbers) (count : ℕ) → Ok h ≡ accepted_head (sizes_of start) plan
     → count ≡ h.count.value → Left m start (loading_on m start plan) plan start 0 h.count.next (count - 0)
 begun m start plan h count is same_count =
     let all : count - 0 ≡ h.count.value = omega arith in
-    record { so = λ r t' comes. rw (sym is) (subst (λ n. ComesTo m start (records_from (setting m start 0) plan (outline start) 0 h.count.next n) r t') all comes) }
+    record { gives = λ r t' comes. rw (sym is) (subst (λ n. ComesTo m start (records_from (setting m start 0) plan (outline start) 0 h.count.next n) r t') all comes) }

@@ -1,6 +1,5 @@
 -- Numbers written one behind another.
-use Rattle.std.proofs.Common.{◌≡◌, ℕ, suc, ◌+◌, ◌<◌, ◌≤◌, List, [], ◌++◌, length, map, drop, get_or, sym, ap, ◌∙◌, arith, append_assoc, append-nil, length-append, add-one, drop-cons, length-drop}
-use Rattle.std.proofs.lemmas.List.{nil_from_length}
+use Rattle.std.proofs.Common.{◌≡◌, ℕ, suc, ◌+◌, ◌<◌, ◌≤◌, List, ◌++◌, length, map, drop, get_or, sym, ap, ◌∙◌, arith, length-append, drop-cons}
 use Rattle.codec.specs.Numbers.{number_bytes}
 use Rattle.codec.specs.Sequences.{numbers_bytes}
 
@@ -21,9 +20,3 @@ module _ {X : Type 0} (number : X → ℕ) (xs : List X) (k : ℕ) (written want
         length-append written (number_bytes (number (get_or xs k d)) ++ numbers_bytes (map number (drop (suc k) xs))),
         length-append (number_bytes (number (get_or xs k d))) (numbers_bytes (map number (drop (suc k) xs))),
       )
-
-  pub one_written : (d : X) → k < length xs → ToWrite number xs (k + 1) (written ++ number_bytes (number (get_or xs k d))) wanted
-  one_written d more = record { whole = rw add-one (append_assoc written (number_bytes (number (get_or xs k d))) _ ∙ next_number d more) }
-
-  pub all_written : length xs ≤ k → written ≡ wanted
-  all_written over = let none : drop k xs ≡ [] = nil_from_length _ (omega (arith, length-drop k xs)) in sym (append-nil written) ∙ (ap (λ rest. written ++ numbers_bytes (map number rest)) (sym none) ∙ left.whole)

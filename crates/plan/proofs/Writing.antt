@@ -16,7 +16,7 @@ use Rattle.codec.specs.Sequences.{numbers_bytes}
 use Rattle.codec.specs.Records.{hop_number}
 use Rattle.plan.specs.Plans.{stream_numbers, listed, open_streams, records_numbers, plan_bytes}
 use Rattle.codec.specs.Heads.{head_numbers}
-use Rattle.plan.proofs.Listing.{Told, none_told, closed_told, open_told, all_told}
+use Rattle.plan.proofs.Listing.{Told, none_told, closed_told, open_told}
 
 -- the bytes of a head, and of the records of some streams
 abbrev pub bytes_of : Head → ℕ → List (ℕ × OpenStream) → List ℕ
@@ -76,9 +76,6 @@ module _ (h : Head) (streams : ℕ → Option OpenStream) (k : ℕ) (items : Lis
         length-append (bytes_of h count written.told) (numbers_bytes (stream_numbers (k, s)) ++ numbers_bytes (records_numbers rest)),
         length-append (numbers_bytes (stream_numbers (k, s))) (numbers_bytes (records_numbers rest)),
       )
-
-  pub all_written : stream_count ≤ k → items ≡ plan_bytes h streams
-  all_written over = written.bytes ∙ ap (bytes_of h (length (open_streams streams))) (all_told streams k written.told written.so_far over)
 
 pub hops_fit : (hops : List Hop) → ((k : ℕ) → k < length hops → hop_number (hop_at hops k) < 1024) → list_all (λ h. nat_le (hop_number h) 65535) hops ≡ true
 hops_fit [] small = refl

@@ -6,7 +6,7 @@ use Rattle.routes.specs.declared.declined.Declined.{Declined}
 use Rattle.routes.specs.Routes.{OpenStream}
 use Rattle.model.specs.Grid.{Setting, Grid, assign}
 use Rattle.model.specs.Layouts.{on_layout}
-use Rattle.model.specs.Calls.{Call, opens, done, open_refusal, opening}
+use Rattle.model.specs.Calls.{Call, opens, declined, done, open_refusal, opening}
 use Rattle.grid.specs.declared.tables.Tables.{Tables}
 use Rattle.grid.specs.Views.{outline}
 use Rattle.grid.specs.Makes.{Same, Edits}
@@ -16,6 +16,7 @@ use Rattle.codec.specs.declared.head.HeadNumbers.{HeadNumbers}
 use Rattle.codec.specs.declared.number.ByteFault.{ByteFault}
 use Rattle.codec.specs.Heads.{head_at, values_of, place_of, judged}
 use Rattle.codec.specs.Records.{Entry, record_at}
+use Rattle.plan.specs.declared.fault.InRecord.{InRecord}
 use Rattle.plan.specs.declared.fault.LoadFault.{LoadFault}
 use Rattle.plan.specs.declared.fault.LoadFault.TheVariants as fault
 
@@ -97,6 +98,11 @@ loading_on m t plan = loading m (sizes_of t) (outline t) plan
 -- the opening of a record's stream
 abbrev pub opening_of : Entry → Call (Unit {0})
 opening_of e = opens e.stream e.request e.hops
+
+-- a record's stream is opened, or declined, which is told with the record's number
+abbrev pub OpensRecord : Meaning → Tables → ℕ → Entry → Result (Unit {0}) (InRecord Declined) → Tables → Type 0
+OpensRecord m t k e (Ok a) t' = Edits m t (opening_of e) done t'
+OpensRecord m t k e (Err f) t' = (f.number ≡ k) × Edits m t (opening_of e) (declined f.fault) t'
 
 -- records are opened one after another
 abbrev pub Opens : Meaning → Tables → List Entry → Tables → Type 0

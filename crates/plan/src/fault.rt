@@ -13,8 +13,8 @@ pub struct InRecord<F> {
     pub fault: F,
 }
 
-/// Why a plan is refused as a whole, and the byte at which the number of its head starts that is to blame, or what stands behind its last
-/// record.
+/// Why a plan is refused as a whole, and where: the byte at which the number of its head starts that is to blame, or the first byte behind its
+/// last record.
 #[derive(Clone, Copy, PartialEq, Eq, Debug)]
 pub struct PlanFault {
     pub refusal: Refusal,

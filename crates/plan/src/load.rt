@@ -1,10 +1,8 @@
 // Loading a plan on a grid.
 ghost use Rattle.std.specs.Prelude.{◌≡◌, ◌≤◌, length, take, IfOk, MatchResult};
-ghost use Rattle.model.specs.Calls.{declined, done};
-ghost use Rattle.grid.specs.Makes.{Edits};
 ghost use Rattle.codec.specs.Sequences.{behind};
 ghost use Rattle.codec.specs.Records.{hops_read, hops_in, record_at, entry_of, ReadsRecord};
-ghost use Rattle.plan.specs.Loads.{accepted_head, sizes_of, opening_of, Loads};
+ghost use Rattle.plan.specs.Loads.{accepted_head, sizes_of, OpensRecord, Loads};
 ghost use Rattle.plan.specs.RoundTrips.{WrittenBack};
 
 use crate::fault::{InRecord, LoadFault, PlanFault};
@@ -80,7 +78,7 @@ fn open<L: Layout>(
     told: Record<'_>,
 ) -> Result<(), InRecord<Declined>>
     requires { behind told.hops.now 0 (hops_read told.count) ≡ Ok (length told.hops.now) }
-    ensures made { MatchResult result (λ _. Edits (L.meaning grid.old.layout) grid.old.tables (opening_of (entry_of told.entry)) done grid.new.tables) (λ f. (f.number ≡ number) × Edits (L.meaning grid.old.layout) grid.old.tables (opening_of (entry_of told.entry)) (declined f.fault) grid.new.tables) }
+    ensures made { OpensRecord (L.meaning grid.old.layout) grid.old.tables number (entry_of told.entry) result grid.new.tables }
     ensures layout { grid.new.layout ≡ grid.old.layout }
 {
     let count = hops_read(told.count);
@@ -91,13 +89,14 @@ fn open<L: Layout>(
     }
 }
 
-/// Loads a plan: judges its head, and opens the streams of its records one after another as `open` does. Answers the count of records. The
-/// records ahead of a fault stay open.
+/// Loads a plan: judges its head, and opens the streams of its records one after another as `Grid::open` does. Answers the count of records. The
+/// streams of the records ahead of a fault stay open; nothing else of the grid has changed then.
 ///
-/// A plan that loads on a grid with no stream, its streams in rising number, is what `write` writes then, byte for byte. No plan that loads is
-/// longer than 3530 bytes.
+/// The head is refused as `judge_head` does; its rule, width and height are not compared with the grid's layout. Then comes the first fault of a
+/// record: a number that cannot be read, or what the grid declines. Bytes behind the last record are refused by `TrailingBytes`.
 ///
-/// A fault tells whether the bytes, the plan or the grid is to blame, with the record where it is one, and the place: see `LoadFault`.
+/// A plan that has loaded on a grid without streams, its streams in rising number, is what `write` writes of the grid then. One that has loaded has at
+/// most 3530 bytes.
 pub fn load<L: Layout>(grid: &mut Grid<L>, plan: &[u8]) -> Result<usize, LoadFault>
     ensures made { Loads (L.meaning grid.old.layout) grid.old.tables plan.now result grid.new.tables }
     ensures layout { grid.new.layout ≡ grid.old.layout }

@@ -95,8 +95,8 @@ fn not_written(rt: HostRuntime) -> Result<(), Fail> {
 #[test]
 fn loaded_in_part(rt: HostRuntime) -> Result<(), Fail> {
     let mut grid = blank(rt.alloc())?;
-    assert_eq!(rt; load(&mut grid, &TWO_STREAMS[..20]).is_err(), true);
-    assert_eq!(rt; grid.stream(0).is_ok(), true);
+    assert!(rt; load(&mut grid, &TWO_STREAMS[..20]).is_err());
+    assert!(rt; grid.stream(0).is_ok());
     assert_eq!(rt; grid.stream(1), Err(Refusal::NotOpen));
     let mut buffer = [0; 15];
     let head = Head {

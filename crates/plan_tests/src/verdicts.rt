@@ -147,7 +147,7 @@ fn numbers(rt: HostRuntime) -> Result<(), Fail> {
     Ok(())
 }
 
-// Every refusal of an opening, in the first record and behind one that opens. Layers: the mesh is 3 x 3.
+// Every refusal of an opening, in the first record and behind one that opens. The mesh is 3 × 3, with two lanes to a link.
 #[test]
 fn records(rt: HostRuntime) -> Result<(), Fail> {
     let cases: [(&[u8], &str); 23] = [

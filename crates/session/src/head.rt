@@ -1,6 +1,6 @@
 // The head under which the plan of a grid is written.
 ghost use Rattle.std.specs.Prelude.{◌≡◌, Some};
-ghost use Rattle.plan.specs.Verdicts.{rule_of};
+ghost use Rattle.codec.specs.Heads.{rule_numbered};
 ghost use Rattle.session.specs.Heads.{rule_number, head_of};
 
 use codec::head::Head;
@@ -9,7 +9,7 @@ use layouts::turn_rule::TurnRule;
 // The number of a turn rule.
 fn rule_number(rule: TurnRule) -> u16
     ensures value { result ≡ rule_number rule }
-    ensures back { rule_of result ≡ Some rule }
+    ensures back { rule_numbered result ≡ Some rule }
 {
     match rule {
         TurnRule::Xy => 1,

@@ -19,9 +19,8 @@ use Rattle.model.specs.Calls.{Call, opens, closes, sends, steps, Answer, decline
 use Rattle.model.specs.Layouts.{on_layout}
 use Rattle.model.specs.Runs.{History, start, ◌▸◌, after, answer_to, handed_out_since}
 use Rattle.codec.specs.declared.number.ByteFault.TheVariants.{Form}
-use Rattle.codec.specs.Numbers.{number_bytes, number_at}
+use Rattle.codec.specs.Numbers.{byte_refusal, number_bytes, number_at}
 use Rattle.plan.specs.declared.fault.LoadFault.TheVariants as fault
-use Rattle.plan.specs.Lines.{byte_refusal}
 use Rattle.plan.specs.Verdicts.{verdict_of}
 use Rattle.search.specs.Scales.{Scale, total, peak}
 use Rattle.search.specs.Finds.{values_needed, marks_needed}

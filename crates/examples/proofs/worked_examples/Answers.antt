@@ -6,7 +6,7 @@ use Rattle.model.specs.Sums.{grid_sum}
 use Rattle.model.specs.Calls.{open_refusal, close_refusal, send_refusal, lane_refusal, stepping}
 use Rattle.codec.specs.Heads.{parts}
 use Rattle.codec.specs.Numbers.{number_bytes}
-use Rattle.codec.specs.Records.{numbers_at}
+use Rattle.codec.specs.Sequences.{numbers_at}
 use Rattle.plan.specs.Loads.{records_from}
 use Rattle.plan.specs.Plans.{open_streams}
 use Rattle.plan.specs.Verdicts.{verdict_of}

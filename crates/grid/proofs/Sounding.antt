@@ -36,11 +36,6 @@ no_load : (link : ℕ) → load (λ _. None) link ≡ 0
 unfolding load
 no_load link = refl
 
--- Loads rise with what each entry adds.
-load_rises : (streams others : ℕ → Option OpenStream) (link : ℕ) → ((k : ℕ) → share link (streams k) ≤ share link (others k)) → load streams link ≤ load others link
-unfolding load
-load_rises streams others link each = sum_rises stream_count (λ k. share link (streams k)) (λ k. share link (others k)) (λ k _. each k)
-
 -- Where the entries but one add no more to the load of a link than they did, the load differs at most by what that one adds.
 load_rises_by : (streams others : ℕ → Option OpenStream) (link n a b : ℕ) → n < stream_count
     → ((k : ℕ) → (k ≡ n → ⊥) → share link (streams k) ≤ share link (others k)) → share link (streams n) + a ≤ share link (others n) + b
@@ -49,7 +44,7 @@ unfolding load
 load_rises_by streams others link n a b low each here =
     sum_rises_by stream_count (λ k. share link (streams k)) (λ k. share link (others k)) n a b low each here
 
-assign_same : (streams : ℕ → Option OpenStream) (n : ℕ) (entry : Option OpenStream) → assign streams n entry n ≡ entry
+pub assign_same : (streams : ℕ → Option OpenStream) (n : ℕ) (entry : Option OpenStream) → assign streams n entry n ≡ entry
 unfolding assign
 assign_same streams n entry = grind (arith, nat_tests)
 
@@ -157,13 +152,6 @@ module _ {m : Meaning} {lanes capacity : ℕ} {streams : ℕ → Option OpenStre
   -- one stream fewer
   pub sound_without : (n : ℕ) → n < stream_count → Sound m lanes capacity (assign streams n None)
   sound_without n low = sound_entry n None low (λ s is. cc) (λ link. omega (arith, sound.loads link))
-
-  -- the streams of numbers below n alone
-  pub sound_below : (n : ℕ) → Sound m lanes capacity (streams_below n streams)
-  sound_below n = record {
-    routes = λ k. cond_both (nat_lt k n) (streams k) None HasRoute (λ _. sound.routes k) (λ _ s is. cc);
-    loads = λ link. omega (arith, load_rises (streams_below n streams) streams link (below_adds streams n link), sound.loads link);
-  }
 
   -- The open streams can be opened again one by one, in rising number, from a blank grid on: nothing declines stream n while those of
   -- numbers below n are open.

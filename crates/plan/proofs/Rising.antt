@@ -10,6 +10,7 @@ use Rattle.model.specs.Grid.{assign}
 use Rattle.model.proofs.Puts.{assign_other}
 use Rattle.grid.specs.declared.tables.Tables.{Tables}
 use Rattle.grid.specs.Views.{streams_in}
+use Rattle.grid.proofs.Sounding.{assign_same}
 use Rattle.codec.specs.Records.{Entry}
 use Rattle.plan.specs.Loads.{stream_in, streams_after, Opens, sizes_of}
 use Rattle.plan.specs.Plans.{listed, open_streams}
@@ -37,10 +38,6 @@ rising : (end : ℕ) (es : List Entry) → Rise es → AllBelow end es → Risin
 rising end [] rise below = tt
 rising end (e ∷ more) rise below = (omega arith, below.0, rising_behind end e more rise below.1)
 
-assigned : (streams : ℕ → Option OpenStream) (n : ℕ) (entry : Option OpenStream) → assign streams n entry n ≡ entry
-unfolding assign
-assigned streams n entry = grind (arith, nat_tests)
-
 -- streams below those of the records are as before
 untouched : (n end : ℕ) (es : List Entry) (streams : ℕ → Option OpenStream) → Rising n end es → (j : ℕ) → j < n → streams_after streams es j ≡ streams j
 untouched n end [] streams rise j below = refl
@@ -62,7 +59,7 @@ listed_as_told (suc k) n end (e ∷ more) streams split rise none =
     let all = streams_after with_first more in
     ⊎_elim
     (λ (here : e.stream ≡ n).
-    let is : all e.stream ≡ Some (stream_in e) = untouched (e.stream + 1) end more with_first rise.2 e.stream (omega arith) ∙ assigned streams e.stream (Some (stream_in e)) in
+    let is : all e.stream ≡ Some (stream_in e) = untouched (e.stream + 1) end more with_first rise.2 e.stream (omega arith) ∙ assign_same streams e.stream (Some (stream_in e)) in
     let none_behind : NoneFrom (e.stream + 1) with_first = λ j over. assign_other streams e.stream (Some (stream_in e)) j (λ same. omega arith) ∙ none j (omega arith) in
     subst (λ j. listed all j (suc k) ≡ map numbered_stream (e ∷ more)) here
     (is_listed all e.stream k (stream_in e) is ∙ ap (λ l. numbered_stream e ∷ l) (listed_as_told k (e.stream + 1) end more with_first (omega arith) rise.2 none_behind)))

@@ -373,8 +373,8 @@ fn seeks_by_two_measures(rt: HostRuntime) -> Result<(), Fail> {
     Ok(())
 }
 
-// A plan for this mesh with one lane to a link, two places to a lane and some capacity. Stream 0 goes over links 0 and 13 with
-// demand 30, stream 1 over links 0, 1, 14 and 17 with demand 20.
+// A plan for this mesh with one lane to a link, two places to a lane and some capacity. Stream 0 goes over links 0 and 13 and
+// asks for 30, stream 1 goes over links 0, 1, 14 and 17 and asks for 20.
 fn plan(heap: Global, capacity: u8) -> Result<Vec<u8>, Fail> {
     Ok(vec![in heap;
         1, 1, 3, 3, 1, 2, capacity, 2, 0, 0, 4, 30, 2, 0, 52, 1, 0, 8, 20, 4, 0, 4, 56, 68,

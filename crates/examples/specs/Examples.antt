@@ -56,7 +56,7 @@ SmallRoutes =
 abbrev pub square : TurnRule → ℕ → Setting
 square rule lanes = on_layout (mesh_meaning rule 3 3) lanes 1 100 0
 
--- With one lane, and a stream of demand 80 open on links 0 and 13: on the same route there is space for 20 more, and not
+-- With one lane, and a stream that asks for 80 open on links 0 and 13: on the same route there is space for 20 more, and not
 -- for 21.
 abbrev pub one_lane : Setting
 one_lane = square Xy 1
@@ -119,7 +119,7 @@ Only {A} P a = P a × ((b : A) → P b → b ≡ a)
 abbrev pub OnlyFinds : {V : Type 0} → Scale V → TurnRule → ℕ → History ℕ → Request → Result (List Hop) Declined → Type 0
 OnlyFinds s rule lanes past q = Only (Found s rule lanes past q)
 
--- With the stream of demand 80 open, links 0 and 13 cannot bear 30 more, and the other way has to climb. So with one lane a seek says
+-- With the stream that asks for 80 open, links 0 and 13 cannot bear 30 more, and the other way has to climb. So with one lane a seek says
 -- that there is no route, and with two lanes it goes the other way.
 abbrev pub LoadedSeeks : Type 0
 LoadedSeeks =

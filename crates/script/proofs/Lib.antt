@@ -5,3 +5,4 @@ pub mod Names
 pub mod LineMistakes
 pub mod Dots
 pub mod Pushes
+pub mod Saying

@@ -4,8 +4,8 @@ use Rattle.script.specs.declared.mistake.Mistake.TheVariants.{UnknownCommand}
 use Rattle.script.specs.Reads.{Read, OfTheLine, then}
 use Rattle.script.specs.Hops.{hops_in}
 use Rattle.script.specs.Hex.{pair_of, bytes_of, bytes_in}
-use Rattle.script.specs.Parts.{first_shape, first_number, first_measure, first_request, nothing_more, only_number, only_hop, only_strip, request_and_hops}
-use Rattle.script.specs.Commands.{Instruction, question_named, call_named, named_instruction, command_of}
+use Rattle.script.specs.Parts.{first_shape, first_number, first_measure, first_request, last_beat, nothing_more, only_number, only_hop, only_strip, request_and_hops}
+use Rattle.script.specs.Commands.{Instruction, question_named, show_named, call_named, named_instruction, command_of}
 
 then_mistakes : {A B : Type 0} (r : Read A) (f : A → Read B) → OfTheLine r → ((x : A) → OfTheLine (f x)) → OfTheLine (then r f)
 then_mistakes (Ok x) f p q = q x
@@ -23,6 +23,9 @@ shape_mistakes ws = grind arith
 
 measure_mistakes : (ws : List (List ℕ)) → OfTheLine (first_measure ws)
 measure_mistakes ws = grind arith
+
+beat_mistakes : (ws : List (List ℕ)) → OfTheLine (last_beat ws)
+beat_mistakes ws = grind arith
 
 fields_mistakes : (ws : List (List ℕ)) → OfTheLine (first_request ws)
 fields_mistakes ws = grind arith
@@ -67,6 +70,7 @@ ruleset parts = (
   number_mistakes,
   shape_mistakes,
   measure_mistakes,
+  beat_mistakes,
   fields_mistakes,
   end_mistakes,
   only_number_mistakes,
@@ -80,8 +84,11 @@ ruleset parts = (
 question_mistakes : (name : List ℕ) (ws : List (List ℕ)) → OfTheLine (question_named name ws)
 question_mistakes name ws = search parts depth 9
 
+show_mistakes : (name : List ℕ) (ws : List (List ℕ)) → OfTheLine (show_named name ws)
+show_mistakes name ws = search (parts, question_mistakes) depth 9
+
 call_mistakes : (name : List ℕ) (ws : List (List ℕ)) → OfTheLine (call_named name ws)
-call_mistakes name ws = search (parts, question_mistakes) depth 9
+call_mistakes name ws = search (parts, show_mistakes) depth 9
 
 named_mistakes : (name : List ℕ) (ws : List (List ℕ)) → OfTheLine (named_instruction name ws)
 named_mistakes name ws = search (parts, call_mistakes) depth 12

@@ -6,11 +6,12 @@ use Rattle.routes.specs.declared.hop.Hop.{Hop}
 use Rattle.routes.specs.declared.stream.Request.{Request}
 use Rattle.lanes.specs.declared.strip.Strip.{Strip}
 use Rattle.script.specs.declared.command.Command.{Command}
-use Rattle.script.specs.declared.command.Command.TheVariants.{Mesh, Link, Turn, Judge, Grid, Open, Seek, Close, Send, Step, Stream, Route, LinkLoad, Count, Items, Drain, Load, Write}
+use Rattle.script.specs.declared.command.Command.TheVariants.{Mesh, Link, Turn, Judge, Grid, Open, Seek, Close, Send, Step, Stream, Route, LinkLoad, Count, Items, Drain, Load, Write, Check, Rehearse, Report, Streams, Picture, Say}
 use Rattle.script.specs.declared.command.MeasureName.{MeasureName}
+use Rattle.script.specs.declared.command.BeatName.{BeatName}
 use Rattle.script.specs.declared.mistake.Mistake.TheVariants.{UnknownCommand}
 use Rattle.script.specs.Reads.{Read, then}
-use Rattle.script.specs.Parts.{first_measure, first_number, first_shape, first_request, behind, past, nothing_more, only_number, only_hop, only_strip, request_and_hops}
+use Rattle.script.specs.Parts.{first_measure, first_number, first_shape, first_request, last_beat, behind, past, nothing_more, only_number, only_hop, only_strip, request_and_hops}
 use Rattle.script.specs.Hex.{bytes_in}
 
 -- What a command says, with plain lists.
@@ -33,6 +34,12 @@ pub data Instruction : Type 0 where
   drains : Instruction
   loads : List ℕ → Instruction
   writes : Instruction
+  checks : List ℕ → Instruction
+  rehearses : ℕ → BeatName → Instruction
+  reports : Instruction
+  streams : Instruction
+  picture : Instruction
+  says : Instruction
 
 abbrev pub instruction_of : Command → Instruction
 instruction_of (Mesh rule w h) = mesh rule w h
@@ -53,6 +60,12 @@ instruction_of Items = items
 instruction_of Drain = drains
 instruction_of (Load bytes) = loads (vec_items bytes)
 instruction_of Write = writes
+instruction_of (Check bytes) = checks (vec_items bytes)
+instruction_of (Rehearse strips beat) = rehearses strips beat
+instruction_of Report = reports
+instruction_of Streams = streams
+instruction_of Picture = picture
+instruction_of Say = says
 
 -- mesh RULE WIDTH HEIGHT, without its name
 abbrev pub mesh_instruction : List (List ℕ) → Read Instruction
@@ -90,9 +103,13 @@ seek_instruction ws =
 abbrev pub send_instruction : List (List ℕ) → Read Instruction
 send_instruction ws = then (first_number ws) (λ s. then (only_strip (behind ws)) (λ strip. Ok (sends s strip)))
 
--- load HEX..
-abbrev pub load_instruction : List (List ℕ) → Read Instruction
-load_instruction ws = then (bytes_in ws) (λ bytes. Ok (loads bytes))
+-- rehearse STRIPS, or rehearse STRIPS BEAT
+abbrev pub rehearse_instruction : List (List ℕ) → Read Instruction
+rehearse_instruction ws = then (first_number ws) (λ strips. then (last_beat (behind ws)) (λ beat. Ok (rehearses strips beat)))
+
+-- the commands that name bytes, as load HEX..
+abbrev pub bytes_instruction : (List ℕ → Instruction) → List (List ℕ) → Read Instruction
+bytes_instruction f ws = then (bytes_in ws) (λ bytes. Ok (f bytes))
 
 -- the commands that name a number, as link K
 abbrev pub number_instruction : (ℕ → Instruction) → List (List ℕ) → Read Instruction
@@ -117,7 +134,18 @@ question_named name ws =
     (cond (bytes_eq name (codes "write")) (bare_instruction writes ws)
     (Err UnknownCommand))))))
 
--- those that change one, and those that ask about it
+-- those that rehearse a plan and show it, and those that ask; the words behind say are any
+abbrev pub show_named : List ℕ → List (List ℕ) → Read Instruction
+show_named name ws =
+    cond (bytes_eq name (codes "check")) (bytes_instruction checks ws)
+    (cond (bytes_eq name (codes "rehearse")) (rehearse_instruction ws)
+    (cond (bytes_eq name (codes "report")) (bare_instruction reports ws)
+    (cond (bytes_eq name (codes "streams")) (bare_instruction streams ws)
+    (cond (bytes_eq name (codes "picture")) (bare_instruction picture ws)
+    (cond (bytes_eq name (codes "say")) (Ok says)
+    (question_named name ws))))))
+
+-- those that change a grid, and all of these
 abbrev pub call_named : List ℕ → List (List ℕ) → Read Instruction
 call_named name ws =
     cond (bytes_eq name (codes "open")) (open_instruction ws)
@@ -126,8 +154,8 @@ call_named name ws =
     (cond (bytes_eq name (codes "send")) (send_instruction ws)
     (cond (bytes_eq name (codes "step")) (hop_instruction steps ws)
     (cond (bytes_eq name (codes "drain")) (bare_instruction drains ws)
-    (cond (bytes_eq name (codes "load")) (load_instruction ws)
-    (question_named name ws)))))))
+    (cond (bytes_eq name (codes "load")) (bytes_instruction loads ws)
+    (show_named name ws)))))))
 
 -- all commands: these, and those that make a mesh or a grid or ask about a mesh
 abbrev pub named_instruction : List ℕ → List (List ℕ) → Read Instruction
@@ -148,4 +176,5 @@ command_of (name ∷ ws) = then (named_instruction name ws) (λ i. Ok (Some i))
 abbrev pub NeedsMemory : List (List ℕ) → Type 0
 NeedsMemory [] = ⊥
 NeedsMemory (name ∷ ws) =
-    (bytes_eq name (codes "judge") ≡ true) ⊎ ((bytes_eq name (codes "open") ≡ true) ⊎ (bytes_eq name (codes "load") ≡ true))
+    (bytes_eq name (codes "judge") ≡ true)
+    ⊎ ((bytes_eq name (codes "open") ≡ true) ⊎ ((bytes_eq name (codes "load") ≡ true) ⊎ (bytes_eq name (codes "check") ≡ true)))

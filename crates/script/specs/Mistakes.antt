@@ -1,7 +1,7 @@
 -- What is said of each mistake.
 use Rattle.std.specs.Prelude.{ℕ, List, codes}
 use Rattle.script.specs.declared.mistake.Mistake.{Mistake}
-use Rattle.script.specs.declared.mistake.Mistake.TheVariants.{UnknownCommand, MissingWord, ExtraWord, UnknownRule, NotANumber, NumberTooLarge, NotAHop, UnknownMeasure, NotBytes, NoMesh, NoGrid, OutOfMemory}
+use Rattle.script.specs.declared.mistake.Mistake.TheVariants.{UnknownCommand, MissingWord, ExtraWord, UnknownRule, NotANumber, NumberTooLarge, NotAHop, UnknownMeasure, UnknownBeat, NotBytes, NoMesh, NoGrid, OutOfMemory}
 
 abbrev pub text_of : Mistake → List ℕ
 text_of UnknownCommand = codes "unknown command"
@@ -12,6 +12,7 @@ text_of NotANumber = codes "not a number"
 text_of NumberTooLarge = codes "number too large"
 text_of NotAHop = codes "not a hop"
 text_of UnknownMeasure = codes "unknown measure"
+text_of UnknownBeat = codes "unknown beat"
 text_of NotBytes = codes "not bytes"
 text_of NoMesh = codes "no mesh"
 text_of NoGrid = codes "no grid"

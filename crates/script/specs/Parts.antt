@@ -9,7 +9,9 @@ use Rattle.routes.specs.Routes.{hop_on}
 use Rattle.lanes.specs.declared.strip.Strip.{Strip}
 use Rattle.script.specs.declared.command.MeasureName.{MeasureName}
 use Rattle.script.specs.declared.command.MeasureName.TheVariants.{Total, Peak}
-use Rattle.script.specs.declared.mistake.Mistake.TheVariants.{MissingWord, ExtraWord, UnknownRule, UnknownMeasure}
+use Rattle.script.specs.declared.command.BeatName.{BeatName}
+use Rattle.script.specs.declared.command.BeatName.TheVariants.{Even, Uneven}
+use Rattle.script.specs.declared.mistake.Mistake.TheVariants.{MissingWord, ExtraWord, UnknownRule, UnknownMeasure, UnknownBeat}
 use Rattle.script.specs.Numbers.{decimal_of}
 use Rattle.script.specs.Reads.{Read, then}
 use Rattle.script.specs.Hops.{hops_in}
@@ -26,6 +28,10 @@ rule_of w =
 -- the measure that a word names
 abbrev pub measure_of : List ℕ → Read MeasureName
 measure_of w = cond (bytes_eq w (codes "total")) (Ok Total) (cond (bytes_eq w (codes "peak")) (Ok Peak) (Err UnknownMeasure))
+
+-- the beat that a word names
+abbrev pub beat_of : List ℕ → Read BeatName
+beat_of w = cond (bytes_eq w (codes "even")) (Ok Even) (cond (bytes_eq w (codes "uneven")) (Ok Uneven) (Err UnknownBeat))
 
 -- the first word as f reads it, and the words behind it
 abbrev pub first : {A : Type 0} → (List ℕ → Read A) → List (List ℕ) → Read A
@@ -71,6 +77,11 @@ first_request ws =
 abbrev pub nothing_more : List (List ℕ) → Read (Unit {0})
 nothing_more [] = Ok tt
 nothing_more (w ∷ ws) = Err ExtraWord
+
+-- BEAT, or nothing for the even one, and nothing more
+abbrev pub last_beat : List (List ℕ) → Read BeatName
+last_beat [] = Ok Even
+last_beat (w ∷ ws) = then (beat_of w) (λ beat. then (nothing_more ws) (λ _. Ok beat))
 
 -- a number of 16 bits, and nothing more
 abbrev pub only_number : List (List ℕ) → Read ℕ

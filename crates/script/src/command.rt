@@ -13,6 +13,15 @@ pub enum MeasureName {
     Peak,
 }
 
+/// The beat of a rehearsal, by its name.
+#[derive(Clone, Copy, PartialEq, Eq, Debug)]
+pub enum BeatName {
+    /// All streams alike.
+    Even,
+    /// Some streams faster than others, by turns.
+    Uneven,
+}
+
 /// A command of a script.
 #[derive(PartialEq, Eq, Debug, Drop)]
 pub enum Command {
@@ -59,4 +68,16 @@ pub enum Command {
     Load(Vec<u8>),
     /// Tell the plan of the open streams.
     Write,
+    /// Tell the verdict on the plan of these bytes.
+    Check(Vec<u8>),
+    /// Rehearse with so many strips of each open stream, in a beat.
+    Rehearse(u16, BeatName),
+    /// Tell what the rehearsals came to together.
+    Report,
+    /// Tell the open streams in a table.
+    Streams,
+    /// Tell the loads of the links in a picture of the grid.
+    Picture,
+    /// Tell the words behind the name of the command.
+    Say,
 }

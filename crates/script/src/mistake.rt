@@ -25,6 +25,8 @@ pub enum Mistake {
     NotAHop,
     /// The word where a measure is wanted names none.
     UnknownMeasure,
+    /// The word for a beat names none.
+    UnknownBeat,
     /// The word where bytes are wanted is not made of pairs of digits in base sixteen.
     NotBytes,
     /// The command wants a mesh, and none has been made.
@@ -49,6 +51,7 @@ impl Mistake {
             Mistake::NumberTooLarge => "number too large",
             Mistake::NotAHop => "not a hop",
             Mistake::UnknownMeasure => "unknown measure",
+            Mistake::UnknownBeat => "unknown beat",
             Mistake::NotBytes => "not bytes",
             Mistake::NoMesh => "no mesh",
             Mistake::NoGrid => "no grid",

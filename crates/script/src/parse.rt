@@ -3,7 +3,7 @@ ghost use Rattle.std.specs.Prelude.{◌≡◌, ◌∷◌};
 ghost use Rattle.std.specs.Option.{option_map};
 ghost use Rattle.script.specs.Words.{words_of};
 ghost use Rattle.script.specs.Reads.{said, Parses, OfTheLine};
-ghost use Rattle.script.specs.Commands.{instruction_of, mesh_instruction, turn_instruction, grid_instruction, judge_instruction, open_instruction, seek_instruction, send_instruction, load_instruction, question_named, call_named, named_instruction, command_of, NeedsMemory};
+ghost use Rattle.script.specs.Commands.{instruction_of, mesh_instruction, turn_instruction, grid_instruction, judge_instruction, open_instruction, seek_instruction, send_instruction, rehearse_instruction, loads, checks, bytes_instruction, question_named, show_named, call_named, named_instruction, command_of, NeedsMemory};
 
 use crate::command::Command;
 use crate::mistake::Mistake;
@@ -87,13 +87,28 @@ impl<'a> Words<'a> {
 
     // The words behind `load`: the bytes of a plan.
     fn load(&mut self, heap: Global) -> Result<Command, Mistake>
-        ensures { Parses instruction_of (Unit {0}) (load_instruction self.old) result }
+        ensures { Parses instruction_of (Unit {0}) (bytes_instruction loads self.old) result }
     {
         Ok(Command::Load(self.bytes(heap)?))
     }
+
+    // The words behind `rehearse`: a count of strips, and a beat or none.
+    fn rehearse(&mut self) -> Result<Command, Mistake>
+        ensures { said instruction_of result ≡ rehearse_instruction self.old }
+    {
+        let strips = self.number()?;
+        Ok(Command::Rehearse(strips, self.last_beat()?))
+    }
+
+    // The words behind `check`: the bytes of a plan.
+    fn check(&mut self, heap: Global) -> Result<Command, Mistake>
+        ensures { Parses instruction_of (Unit {0}) (bytes_instruction checks self.old) result }
+    {
+        Ok(Command::Check(self.bytes(heap)?))
+    }
 }
 
-// The names are matched in three groups, since the proof of one match over all of them does not close. Matches and not
+// The names are matched in four groups, since the proof of one match over all of them does not close. Matches and not
 // closures: the names are read from input.
 
 // A command that asks about a grid.
@@ -111,7 +126,22 @@ fn question(name: &[u8], words: &mut Words<'_>) -> Result<Command, Mistake>
     }
 }
 
-// A command that changes a grid or asks about it.
+// A command that rehearses a plan or shows it, or asks about a grid.
+fn show(heap: Global, name: &[u8], words: &mut Words<'_>) -> Result<Command, Mistake>
+    ensures { Parses instruction_of (NeedsMemory (name.now ∷ words.old)) (show_named name.now words.old) result }
+{
+    match name {
+        b"check" => words.check(heap),
+        b"rehearse" => words.rehearse(),
+        b"report" => words.end().map(|()| Command::Report),
+        b"streams" => words.end().map(|()| Command::Streams),
+        b"picture" => words.end().map(|()| Command::Picture),
+        b"say" => Ok(Command::Say),
+        _ => question(name, words),
+    }
+}
+
+// A command that changes a grid, shows it or asks about it.
 fn call(heap: Global, name: &[u8], words: &mut Words<'_>) -> Result<Command, Mistake>
     ensures { Parses instruction_of (NeedsMemory (name.now ∷ words.old)) (call_named name.now words.old) result }
 {
@@ -123,7 +153,7 @@ fn call(heap: Global, name: &[u8], words: &mut Words<'_>) -> Result<Command, Mis
         b"step" => words.only_hop().map(Command::Step),
         b"drain" => words.end().map(|()| Command::Drain),
         b"load" => words.load(heap),
-        _ => question(name, words),
+        _ => show(heap, name, words),
     }
 }
 

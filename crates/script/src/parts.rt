@@ -2,10 +2,10 @@
 ghost use Rattle.std.specs.Prelude.{◌≡◌, vec_items, OnOk};
 ghost use Rattle.script.specs.Hops.{hops_in};
 ghost use Rattle.script.specs.Hex.{bytes_in};
-ghost use Rattle.script.specs.Parts.{rule_of, measure_of, first, first_measure, first_number, first_shape, first_request, first_small_number, nothing_more, behind, past, only_number, only_hop, only_strip, request_and_hops};
+ghost use Rattle.script.specs.Parts.{rule_of, measure_of, beat_of, first, first_measure, last_beat, first_number, first_shape, first_request, first_small_number, nothing_more, behind, past, only_number, only_hop, only_strip, request_and_hops};
 ghost use Rattle.script.specs.Reads.{said, Parses};
 
-use crate::command::MeasureName;
+use crate::command::{BeatName, MeasureName};
 use crate::hex::push_bytes;
 use crate::hop::hop;
 use crate::mistake::Mistake;
@@ -38,6 +38,17 @@ fn measure(word: &[u8]) -> Result<MeasureName, Mistake>
         b"total" => Ok(MeasureName::Total),
         b"peak" => Ok(MeasureName::Peak),
         _ => Err(Mistake::UnknownMeasure),
+    }
+}
+
+// The beat that a word names.
+fn beat(word: &[u8]) -> Result<BeatName, Mistake>
+    ensures { result ≡ beat_of word.now }
+{
+    match word {
+        b"even" => Ok(BeatName::Even),
+        b"uneven" => Ok(BeatName::Uneven),
+        _ => Err(Mistake::UnknownBeat),
     }
 }
 
@@ -108,6 +119,20 @@ impl<'a> Words<'a> {
         ensures after { self.new ≡ behind self.old }
     {
         measure(self.word()?)
+    }
+
+    /// The one word that is left as a beat; with no word left it is even.
+    pub(crate) fn last_beat(&mut self) -> Result<BeatName, Mistake>
+        ensures { result ≡ last_beat self.old }
+    {
+        match self.next() {
+            None => Ok(BeatName::Even),
+            Some(word) => {
+                let beat = beat(word)?;
+                self.end()?;
+                Ok(beat)
+            }
+        }
     }
 
     /// The one word that is left as a number of 16 bits.

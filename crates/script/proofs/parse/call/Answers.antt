@@ -1,6 +1,6 @@
 use Rattle.std.proofs.Common.{◌≡◌, codes, refl, arith}
 use Rattle.std.proofs.lemmas.Slice.Eq.{text_from_reads}
-use Rattle.script.specs.Commands.{call_named, question_named}
+use Rattle.script.specs.Commands.{call_named, show_named}
 use Rattle.script.proofs.Names.{no_name}
 use Rattle.script.proofs.parse.call.Goals as goal
 
@@ -13,7 +13,7 @@ returns-in-drain c = grind (arith, text_from_reads c.args.name.now (codes "drain
 pub returns-in_default : goal.returns-in_default
 returns-in_default c =
     let not = no_name c.args.name.now in
-    let no_call : call_named c.args.name.now c.args.words.now ≡ question_named c.args.name.now c.args.words.now =
+    let no_call : call_named c.args.name.now c.args.words.now ≡ show_named c.args.name.now c.args.words.now =
     simp (
       not (codes "open") (λ same. grind arith),
       not (codes "seek") (λ same. grind arith),
@@ -25,4 +25,4 @@ returns-in_default c =
     )
     refl
     in
-    rw no_call (grind (arith, c.question.ensures))
+    rw no_call (grind (arith, c.show.ensures))

@@ -1,0 +1,183 @@
+// Rehearsing the open streams of a grid.
+ghost use Rattle.std.specs.Prelude.{◌≡◌, ℕ, ◌<◌, false, length};
+ghost use Rattle.routes.specs.Loads.{stream_count};
+ghost use Rattle.model.specs.Law.{WillStep, NoLaneWillStep};
+ghost use Rattle.grid.specs.Views.{setting, view};
+ghost use Rattle.rehearsal.specs.Rehearsals.{SendsNone, GoesOn, Idle, MayRehearse};
+
+use crate::beat::Beat;
+use crate::tally::{Tally, strip_of};
+use grid::grid::Grid;
+use grid::step::Step;
+use lanes::strip::Strip;
+use layouts::layout::Layout;
+use plan::summary::summary;
+use refusals::refusal::Refusal;
+use routes::hop::Hop;
+use routes::stream::Stream;
+
+/// What a rehearsal came to.
+#[derive(Clone, Copy, PartialEq, Eq, Debug)]
+pub struct Rehearsal {
+    /// What was seen of each open stream, by its number.
+    pub tallies: [Option<Tally>; 64],
+    /// How many steps went.
+    pub steps: u64,
+    /// How many strips came out.
+    pub items: u64,
+    /// How many steps were known ahead: for each strip the hops of its stream's route.
+    pub ahead: u64,
+}
+
+// An empty tally for each open stream.
+fn tallies(streams: &[Option<Stream>; 64]) -> [Option<Tally>; 64] {
+    let mut tallies = [None; 64];
+    for stream in 0..64 {
+        if streams[stream].is_some() {
+            tallies[stream] = Some(Tally::NONE);
+        }
+    }
+    tallies
+}
+
+impl Rehearsal {
+    // A stream sends its next strip, if it has one left. Whether the strip was let in.
+    fn send<L: Layout>(
+        &mut self,
+        grid: &mut Grid<L>,
+        slots: &mut [Strip],
+        stream: u8,
+        strips: u16,
+    ) -> bool
+        requires { stream < stream_count }
+        ensures layout { grid.new.layout ≡ grid.old.layout }
+        ensures on { GoesOn (L.meaning grid.old.layout) strips self.old grid.old.tables slots.old result self.new grid.new.tables slots.new }
+        ensures idle { result ≡ false → Idle self.old grid.old.tables slots.old self.new grid.new.tables slots.new }
+        ensures declined { result ≡ false → SendsNone (L.meaning grid.old.layout) grid.old.tables slots.old strips self.old stream }
+    {
+        let number = usize::from(stream);
+        let Some(tally) = self.tallies[number] else { return false };
+        if tally.sent >= strips {
+            return false;
+        }
+        let row = tally.sent;
+        if grid
+            .send(slots, u16::from(stream), strip_of(stream, row))
+            .is_err()
+        {
+            return false;
+        }
+        self.tallies[number] = Some(Tally {
+            sent: row + 1,
+            ..tally
+        });
+        true
+    }
+
+    // All streams send, each as often as the beat says. Whether a strip was let in.
+    fn send_all<L: Layout>(
+        &mut self,
+        grid: &mut Grid<L>,
+        slots: &mut [Strip],
+        strips: u16,
+        beat: Beat,
+        turn: u64,
+    ) -> bool
+        ensures layout { grid.new.layout ≡ grid.old.layout }
+        ensures on { GoesOn (L.meaning grid.old.layout) strips self.old grid.old.tables slots.old result self.new grid.new.tables slots.new }
+        ensures idle { result ≡ false → Idle self.old grid.old.tables slots.old self.new grid.new.tables slots.new }
+        ensures declined { result ≡ false → (n : ℕ) → n < stream_count → SendsNone (L.meaning grid.old.layout) grid.old.tables slots.old strips self.old n }
+    {
+        let mut went = false;
+        for stream in 0..64 {
+            for _ in 0..beat.tries(turn, stream) {
+                went |= self.send(grid, slots, stream, strips);
+            }
+        }
+        went
+    }
+
+    // A strip of a stream came out.
+    fn take(&mut self, stream: u16, strip: Strip) {
+        self.items = self.items.saturating_add(1);
+        if stream < 64 {
+            if let Some(tally) = self.tallies[usize::from(stream)] {
+                self.tallies[usize::from(stream)] = Some(tally.after(stream, strip));
+            }
+        }
+    }
+
+    // Steps a lane. Whether the step went.
+    fn step<L: Layout>(
+        &mut self,
+        grid: &mut Grid<L>,
+        slots: &mut [Strip],
+        hop: Hop,
+    ) -> bool
+        ensures layout { grid.new.layout ≡ grid.old.layout }
+        ensures on { (strips : ℕ) → GoesOn (L.meaning grid.old.layout) strips self.old grid.old.tables slots.old result self.new grid.new.tables slots.new }
+        ensures idle { result ≡ false → Idle self.old grid.old.tables slots.old self.new grid.new.tables slots.new }
+        ensures declined { result ≡ false → WillStep (setting (L.meaning grid.old.layout) grid.old.tables (length slots.old)) (view grid.old.tables slots.old) hop.link hop.lane → ⊥ }
+    {
+        match grid.step(slots, hop) {
+            Ok(Step::Moved(_)) => {}
+            Ok(Step::Out(stream, strip)) => self.take(stream, strip),
+            Err(_) => return false,
+        }
+        self.steps = self.steps.saturating_add(1);
+        true
+    }
+
+    // Steps each lane once, links rising and lanes rising within a link. Whether a step went.
+    fn sweep<L: Layout>(&mut self, grid: &mut Grid<L>, slots: &mut [Strip]) -> bool
+        ensures layout { grid.new.layout ≡ grid.old.layout }
+        ensures on { (strips : ℕ) → GoesOn (L.meaning grid.old.layout) strips self.old grid.old.tables slots.old result self.new grid.new.tables slots.new }
+        ensures idle { result ≡ false → Idle self.old grid.old.tables slots.old self.new grid.new.tables slots.new }
+        ensures declined { result ≡ false → NoLaneWillStep (setting (L.meaning grid.old.layout) grid.old.tables (length slots.old)) (view grid.old.tables slots.old) }
+    {
+        let mut went = false;
+        for link in 0..grid.size().links() {
+            // the most that a link has; a lane that is not there declines its step
+            for lane in 0..4 {
+                went |= self.step(grid, slots, Hop { link, lane });
+            }
+        }
+        went
+    }
+}
+
+/// Rehearses the open streams: each sends so many strips, in the beat, and the lanes step in turn, until nothing goes any more.
+///
+/// Refuses too few slots by `TooFewSlots`, and a grid that has items by `ItemsOnGrid`.
+pub fn rehearse<L: Layout>(
+    grid: &mut Grid<L>,
+    slots: &mut [Strip],
+    strips: u16,
+    beat: Beat,
+) -> Result<Rehearsal, Refusal>
+    ensures layout { grid.new.layout ≡ grid.old.layout }
+    ensures made { MayRehearse (L.meaning grid.old.layout) strips grid.old.tables slots.old result grid.new.tables slots.new }
+{
+    if slots.len() < grid.size().slots() {
+        return Err(Refusal::TooFewSlots);
+    }
+    if grid.items() != 0 {
+        return Err(Refusal::ItemsOnGrid);
+    }
+    let hops = summary(grid).hops as u64;
+    let mut rehearsal = Rehearsal {
+        tallies: tallies(grid.streams()),
+        steps: 0,
+        items: 0,
+        ahead: u64::from(strips).saturating_mul(hops),
+    };
+    // each turn but the last lets a strip in or takes one a hop on
+    for turn in 0..u64::MAX {
+        let sent = rehearsal.send_all(grid, slots, strips, beat, turn);
+        let stepped = rehearsal.sweep(grid, slots);
+        if !sent && !stepped {
+            break;
+        }
+    }
+    Ok(rehearsal)
+}

@@ -1,27 +1,30 @@
-// The planner: reads a script from standard input and prints the reply to each of its lines.
+// The planner: reads scripts and prints the reply to each of their lines.
 #![tactic(auto)]
 
 mod drain;
+mod picture;
+mod run;
+mod table;
 
-use crate::drain::drain;
-use session::answer::Answer;
-use session::session::Session;
-use std::io;
-use std::io::{BufRead, BufReader};
+use crate::run::run;
+use std::io::BufReader;
+use std::{env, fs, io};
 
+// Runs the scripts in the files that are named, one after another, each from its beginning with nothing at hand; the script on
+// standard input if none is named, and for the name `-`.
 fn main(rt: HostRuntime) -> io::Result<()> {
-    let mut session = Session::new();
-    // counted by hand, since a range or `enumerate` would end at the largest number, where this count stays
-    let mut number: u64 = 0;
-    for line in BufReader::new(rt.alloc(), rt.stdin())?.split(rt.alloc(), b'\n') {
-        let line = line?;
-        number = number.saturating_add(1);
-        match session.reply(rt.alloc(), number, line.as_slice()) {
-            None => {}
-            Some(Ok(Answer::Drain(links, lanes))) => drain(&rt, &mut session, links, lanes)?,
-            Some(Ok(answer)) => println!(rt; "{answer}")?,
-            Some(Err(failure)) => println!(rt; "{failure}")?,
+    let mut named = false;
+    for name in env::args(&rt)?.skip(1) {
+        named = true;
+        if name.as_str() == "-" {
+            run(&rt, BufReader::new(rt.alloc(), rt.stdin())?)?;
+        } else {
+            let file = fs::open(&rt, name.as_str())?;
+            run(&rt, BufReader::new(rt.alloc(), file)?)?;
         }
+    }
+    if !named {
+        run(&rt, BufReader::new(rt.alloc(), rt.stdin())?)?;
     }
     Ok(())
 }

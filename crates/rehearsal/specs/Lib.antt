@@ -1,3 +1,4 @@
 pub mod Strips
 pub mod Acts
 pub mod Rehearsals
+pub mod Totals

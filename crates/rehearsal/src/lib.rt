@@ -4,3 +4,4 @@
 pub mod beat;
 pub mod rehearse;
 pub mod tally;
+pub mod total;

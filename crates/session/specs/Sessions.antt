@@ -1,10 +1,11 @@
 -- What a session answers, and what it has at hand afterwards.
-use Rattle.std.specs.Prelude.{◌≡◌, ℕ, ◌⊎◌, List, ◌++◌, length, drop, replicate, Some, None, Ok, Err, Option, Result}
+use Rattle.std.specs.Prelude.{◌≡◌, ℕ, ◌⊎◌, List, ◌++◌, length, take, drop, replicate, Some, None, Ok, Err, IsOk, Option, Result}
 use Rattle.refusals.specs.declared.refusal.Refusal.{Refusal}
 use Rattle.refusals.specs.declared.refusal.Refusal.TheVariants.{MeshSize}
 use Rattle.layouts.specs.Layout.{Meaning}
 use Rattle.layouts.specs.Links.{InRange}
-use Rattle.layouts.specs.Mesh.{mesh_meaning}
+use Rattle.layouts.specs.Mesh.{meaning_of, mesh_meaning}
+use Rattle.layouts.specs.declared.mesh.Mesh.{Mesh}
 use Rattle.layouts.specs.declared.turn_rule.TurnRule.{TurnRule}
 use Rattle.routes.specs.Checks.{Terms, no_hop, judgement, verdict}
 use Rattle.routes.specs.Routes.{hop_on}
@@ -27,8 +28,12 @@ use Rattle.grid.specs.Seeks.{Seeks}
 use Rattle.grid.specs.Blank.{making_refusal, BlankTables, NotMade}
 use Rattle.codec.specs.declared.head.Head.{Head}
 use Rattle.plan.specs.declared.fault.LoadFault.{LoadFault}
+use Rattle.plan.specs.declared.line.Summary.{Summary}
 use Rattle.plan.specs.Loads.{Loads}
 use Rattle.plan.specs.Plans.{plan_bytes}
+use Rattle.plan.specs.Verdicts.{own_head, verdict_of}
+use Rattle.rehearsal.specs.declared.rehearse.Rehearsal.{Rehearsal}
+use Rattle.rehearsal.specs.Rehearsals.{MayRehearse}
 use Rattle.script.specs.declared.command.MeasureName.{MeasureName}
 use Rattle.script.specs.declared.command.MeasureName.TheVariants.{Total, Peak}
 use Rattle.grid.specs.declared.tables.Tables.{Tables}
@@ -38,7 +43,7 @@ use Rattle.script.specs.Reads.{Read}
 use Rattle.script.specs.Commands as command
 use Rattle.script.specs.Commands.{Instruction, command_of, NeedsMemory}
 use Rattle.session.specs.declared.answer.Answer.{Answer}
-use Rattle.session.specs.declared.answer.Answer.TheVariants.{Made, Ends, Turn, Accepted, Moved, Out, Fields, Route, Load, Count, Drain, Loaded, Written}
+use Rattle.session.specs.declared.answer.Answer.TheVariants.{Made, Ends, Turn, Accepted, Moved, Out, Fields, Route, Load, Count, Drain, Loaded, Written, Checked, Rehearsed, Report, Streams, Picture, Say}
 use Rattle.session.specs.declared.failure.Failure.{Failure}
 use Rattle.session.specs.declared.failure.Failure.TheVariants as failure
 use Rattle.session.specs.declared.failure.LineFailure.{LineFailure}
@@ -203,6 +208,25 @@ written plan = Written (plan ++ drop (length plan) (replicate 3530 0)) (length p
 abbrev pub plan_of : GridHand → Response
 plan_of g = Ok (written (plan_bytes g.head (streams_in g.tables)))
 
+-- what a check answers: what the grid bears, or the fault
+abbrev pub checked : Result Summary LoadFault → Response
+checked (Ok summary) = Ok (Checked summary)
+checked (Err f) = Err (failure.NotLoaded f)
+
+-- The verdict on a plan; or there is no memory for the grid that its accepted head asks for.
+abbrev pub ChecksPlan : List ℕ → Response → Type 0
+ChecksPlan plan r = (r ≡ checked (verdict_of plan)) ⊎ (IsOk (own_head (take 4096 plan)) × (r ≡ Err (failure.Mistake OutOfMemory)))
+
+-- A rehearsal of so many strips of each open stream. Its beat, which stream sends when, is left open.
+abbrev pub RehearsesStreams : ℕ → GridHand → Response → GridHand → Type 0
+RehearsesStreams strips g r g' =
+    (a : Result Rehearsal Refusal) × MayRehearse g.layout strips g.tables g.slots a g'.tables g'.slots × IsAsMade g g' × (r ≡ response_by Rehearsed a)
+
+-- the grid at hand, with the width and the height in its head
+abbrev pub Shows : Mesh → Tables → ℕ → ℕ → Hand → Type 0
+Shows mesh tables w h hand =
+    (g : GridHand) × (hand.grid ≡ Some g) × (g.layout ≡ meaning_of mesh) × (g.tables ≡ tables) × (g.head.width ≡ w) × (g.head.height ≡ h)
+
 -- ---- commands and lines
 
 -- the response to each command, and what is at hand after it
@@ -225,6 +249,12 @@ Answers before command.items r after = (r ≡ by_grid items before.grid) × (aft
 Answers before command.drains r after = (r ≡ by_grid lanes before.grid) × (after ≡ before)
 Answers before (command.loads plan) r after = OnGrid (LoadsPlan plan) before.mesh before.grid r after
 Answers before command.writes r after = (r ≡ by_grid plan_of before.grid) × (after ≡ before)
+Answers before (command.checks plan) r after = ChecksPlan plan r × (after ≡ before)
+Answers before (command.rehearses strips beat) r after = OnGrid (RehearsesStreams strips) before.mesh before.grid r after
+Answers before command.reports r after = (r ≡ Ok Report) × (after ≡ before)
+Answers before command.streams r after = (r ≡ by_grid (λ _. Ok Streams) before.grid) × (after ≡ before)
+Answers before command.picture r after = (r ≡ by_grid (λ _. Ok Picture) before.grid) × (after ≡ before)
+Answers before command.says r after = (r ≡ Ok Say) × (after ≡ before)
 
 -- the reply to a line: the answer to its command, or the failure with the line's number
 abbrev pub Reply : Type 0

@@ -1,13 +1,14 @@
 -- How answers and failures are written.
-use Rattle.std.specs.Prelude.{ℕ, ◌/◌, ◌%◌, true, List, [], ◌∷◌, ◌++◌, min, take, flat_map, Some, None, codes, decimal, Option}
+use Rattle.std.specs.Prelude.{ℕ, zero, suc, ◌/◌, ◌%◌, Bool, true, false, List, [], ◌∷◌, ◌++◌, min, take, flat_map, Some, None, codes, decimal, Option, slice_index_or}
 use Rattle.std.specs.Fmt.{digit_glyph}
 use Rattle.refusals.specs.Numbers.{refusal_number}
 use Rattle.layouts.specs.Turns.{word_of}
 use Rattle.routes.specs.declared.hop.Hop.{Hop}
-use Rattle.plan.specs.Lines.{fault_text}
+use Rattle.plan.specs.Lines.{fault_text, summary_text}
+use Rattle.rehearsal.specs.declared.tally.Tally.{Tally}
 use Rattle.script.specs.Mistakes.{text_of}
 use Rattle.session.specs.declared.answer.Answer.{Answer}
-use Rattle.session.specs.declared.answer.Answer.TheVariants.{Made, Ends, Turn, Accepted, Moved, Out, Fields, Route, Load, Count, Drain, Loaded, Written}
+use Rattle.session.specs.declared.answer.Answer.TheVariants.{Made, Ends, Turn, Accepted, Moved, Out, Fields, Route, Load, Count, Drain, Loaded, Written, Checked, Rehearsed, Report, Streams, Picture, Say}
 use Rattle.session.specs.declared.failure.Failure.{Failure}
 use Rattle.session.specs.declared.failure.Failure.TheVariants as failure
 use Rattle.session.specs.declared.failure.LineFailure.{LineFailure}
@@ -25,8 +26,24 @@ hop_text h = codes " " ++ (decimal h.link ++ (codes "." ++ decimal h.lane))
 abbrev pub byte_text : ℕ → List ℕ
 byte_text b = digit_glyph true (b / 16) ∷ (digit_glyph true (b % 16) ∷ [])
 
+-- what was seen of a stream: stream S sent N out N in order
+abbrev pub order_text : Bool → List ℕ
+order_text true = codes "in order"
+order_text false = codes "out of order"
+
+abbrev pub tally_line : ℕ → Option Tally → List ℕ
+tally_line n None = []
+tally_line n (Some t) =
+    codes "stream " ++ (decimal n ++ (codes " sent " ++ (decimal t.sent ++ (codes " out " ++ (decimal t.out ++ (codes " " ++ (order_text t.in_order ++ 10 ∷ [])))))))
+
+-- a line for each of the first n streams that has a tally
+abbrev pub tally_lines : List (Option Tally) → ℕ → List ℕ
+tally_lines tallies zero = []
+tally_lines tallies (suc n) = tally_lines tallies n ++ tally_line n (slice_index_or tallies n None)
+
 -- ok TILES LINKS, ok START END, a turn's word, ok, moved STREAM, out STREAM FRAGMENT BAND ROW, ok FROM TO DEMAND,
--- ok HOPS HOP.., ok LOAD, ok COUNT, drain LINKS LANES, ok RECORDS, or ok BYTES HEX
+-- ok HOPS HOP.., ok LOAD, ok COUNT, drain LINKS LANES, ok RECORDS, ok BYTES HEX, ok STREAMS HOPS LOAD, what was
+-- seen of each stream with ok STEPS ITEMS, or the name of a command whose answer is told by who runs the script
 abbrev pub answer_text : Answer → List ℕ
 answer_text (Made tiles links) = codes "ok " ++ (decimal tiles ++ (codes " " ++ decimal links))
 answer_text (Ends start end) = codes "ok " ++ (decimal start ++ (codes " " ++ decimal end))
@@ -40,6 +57,12 @@ answer_text (Load n) = codes "ok " ++ decimal n
 answer_text (Count n) = codes "ok " ++ decimal n
 answer_text (Drain links lanes) = codes "drain " ++ (decimal links ++ (codes " " ++ decimal lanes))
 answer_text (Loaded records) = codes "ok " ++ decimal records
+answer_text (Checked summary) = summary_text summary
+answer_text (Rehearsed r) = tally_lines r.tallies 64 ++ (codes "ok " ++ (decimal r.steps ++ (codes " " ++ decimal r.items)))
+answer_text Report = codes "report"
+answer_text Streams = codes "streams"
+answer_text Picture = codes "picture"
+answer_text Say = codes "say"
 answer_text (Written table count) = codes "ok " ++ (decimal count ++ (codes " " ++ flat_map byte_text (take (min count 3530) table)))
 
 -- why the call was declined, error LINE: what is wrong, or fault LAYER RECORD REFUSAL PLACE

@@ -1,9 +1,12 @@
 // The planner's answers, and how each is written.
 ghost use Rattle.std.specs.Prelude.{Some, flat_map};
-ghost use Rattle.session.specs.Texts.{hop_text, byte_text, answer_text};
+ghost use Rattle.session.specs.Texts.{hop_text, byte_text, tally_lines, answer_text};
 
 use lanes::strip::Strip;
 use layouts::turn::Turn;
+use plan::line::Summary;
+use rehearsal::rehearse::Rehearsal;
+use rehearsal::tally::Tally;
 use routes::hop::Hop;
 use routes::stream::Request;
 use std::fmt;
@@ -37,6 +40,18 @@ pub enum Answer {
     Loaded(usize),
     /// The bytes of a plan, at the front of a table of as many as a plan can have, and their count.
     Written([u8; 3530], usize),
+    /// What a grid bears once a plan is loaded on it.
+    Checked(Summary),
+    /// What a rehearsal came to.
+    Rehearsed(Rehearsal),
+    /// What the rehearsals came to together is to be told.
+    Report,
+    /// The open streams are to be told.
+    Streams,
+    /// The loads are to be told.
+    Picture,
+    /// The words of the line are to be told.
+    Say,
 }
 
 // Hops, each behind a blank.
@@ -64,6 +79,28 @@ impl fmt::Display for ByteList<'_> {
     fn fmt<W: fmt::Write>(&self, f: &mut fmt::Formatter<W>) -> fmt::Result {
         for &byte in self.0 {
             write!(f, "{byte:02X}")?;
+        }
+        Ok(())
+    }
+}
+
+// What was seen of each stream, by its number, a line for each.
+#[derive(Clone, Copy)]
+struct TallyList<'a>(&'a [Option<Tally>; 64]);
+
+impl fmt::Display for TallyList<'_> {
+    ghost output = { λ list. Some (tally_lines list.0.now 64) };
+
+    fn fmt<W: fmt::Write>(&self, f: &mut fmt::Formatter<W>) -> fmt::Result {
+        for number in 0..64 {
+            let Some(tally) = self.0[number] else { continue };
+            let Tally {
+                sent,
+                out,
+                in_order,
+            } = tally;
+            let order = if in_order { "in order" } else { "out of order" };
+            write!(f, "stream {number} sent {sent} out {out} {order}\n")?;
         }
         Ok(())
     }
@@ -104,6 +141,15 @@ impl fmt::Display for Answer {
             Answer::Written(plan, count) => {
                 write!(f, "ok {count} {}", ByteList(&plan[..(*count).min(3530)]))
             }
+            Answer::Checked(summary) => write!(f, "{summary}"),
+            Answer::Rehearsed(rehearsal) => {
+                let tallies = TallyList(&rehearsal.tallies);
+                write!(f, "{tallies}ok {} {}", rehearsal.steps, rehearsal.items)
+            }
+            Answer::Report => write!(f, "report"),
+            Answer::Streams => write!(f, "streams"),
+            Answer::Picture => write!(f, "picture"),
+            Answer::Say => write!(f, "say"),
         }
     }
 }

@@ -23,7 +23,9 @@ use plan::load::load;
 use plan::write::write;
 use routes::hop::Hop;
 use routes::stream::Request;
-use script::command::MeasureName;
+use rehearsal::beat::Beat;
+use rehearsal::rehearse::rehearse;
+use script::command::{BeatName, MeasureName};
 use search::choice::{Choice, Either};
 use search::peak::Peak;
 use search::scratch::{marks_needed, values_needed};
@@ -37,7 +39,7 @@ pub(crate) struct GridAtHand {
     pub(crate) slots: Vec<Strip>,
     values: Vec<Either<u32, (u16, u16)>>,
     marks: Vec<u16>,
-    head: Head,
+    pub(crate) head: Head,
     ghost all_slots: { length (vec_items slots) ≡ slot_count grid.tables.lanes.size },
     ghost all_values: { length (vec_items values) ≡ values_needed grid.tables.lanes.size.links grid.tables.lanes.size.lanes },
     ghost all_marks: { length (vec_items marks) ≡ marks_needed grid.tables.lanes.size.links grid.tables.lanes.size.lanes },
@@ -68,7 +70,7 @@ fn measure_of(name: MeasureName) -> Choice<Total, Peak>
 
 impl GridAtHand {
     ghost use Rattle.session.specs.Hands.{grid_of};
-    ghost use Rattle.session.specs.Sessions.{NewGrid, Opens, Searches, Closes, Sends, Steps, LoadsPlan, fields, route, link_load, count, items, lanes, plan_of};
+    ghost use Rattle.session.specs.Sessions.{NewGrid, Opens, Searches, Closes, Sends, Steps, LoadsPlan, RehearsesStreams, fields, route, link_load, count, items, lanes, plan_of};
 
     // A blank grid of the sizes in its head, with its slots and scratch.
     pub(crate) fn blank(heap: Global, mesh: Mesh, head: Head) -> Result<GridAtHand, MakeError>
@@ -158,6 +160,18 @@ impl GridAtHand {
             Step::Moved(stream) => Ok(Answer::Moved(stream)),
             Step::Out(stream, strip) => Ok(Answer::Out(stream, strip)),
         }
+    }
+
+    // Rehearses the open streams.
+    pub(crate) fn rehearse(&mut self, strips: u16, beat: BeatName) -> Result<Answer, Failure>
+        ensures { RehearsesStreams strips (grid_of self.old) result (grid_of self.new) }
+    {
+        let beat = match beat {
+            BeatName::Even => Beat::Even,
+            BeatName::Uneven => Beat::Uneven,
+        };
+        let rehearsal = rehearse(&mut self.grid, self.slots.as_mut_slice(), strips, beat)?;
+        Ok(Answer::Rehearsed(rehearsal))
     }
 
     // What a stream asked for.

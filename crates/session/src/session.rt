@@ -1,19 +1,21 @@
 // What a script has at hand, and the answers to its lines.
-ghost use Rattle.std.specs.Prelude.{◌≡◌, Some, None, MatchResult};
+ghost use Rattle.std.specs.Prelude.{◌≡◌, Some, None, MatchOption, MatchResult};
 ghost use Rattle.std.specs.Option.{ok_or};
 ghost use Rattle.layouts.specs.Mesh.{meaning_of};
 ghost use Rattle.routes.specs.Checks.{judgement, verdict};
 ghost use Rattle.script.specs.Commands.{instruction_of};
 ghost use Rattle.script.specs.declared.mistake.Mistake.TheVariants.{NoMesh, NoGrid};
 ghost use Rattle.session.specs.Hands.{hand_of};
-ghost use Rattle.session.specs.Sessions.{unloaded, Answers, Replies};
+ghost use Rattle.session.specs.Sessions.{unloaded, ChecksPlan, Shows, Answers, Replies};
 
 use crate::answer::Answer;
 use crate::at_hand::GridAtHand;
 use crate::failure::{Failure, LineFailure};
 use crate::head::head_of;
+use grid::grid::Grid;
 use layouts::layout::Layout;
 use layouts::mesh::Mesh;
+use plan::check::check;
 use routes::declined::Declined;
 use routes::hop::Hop;
 use routes::judge::{Limits, judge};
@@ -21,7 +23,7 @@ use routes::stream::Request;
 use script::command::Command;
 use script::mistake::Mistake;
 use script::parse::parse;
-use std::alloc::Global;
+use std::alloc::{AllocError, Global};
 
 // Judges a route on a mesh whose links bear no load.
 #[tactic(auto, unfolding(routes::specs::Loads::load))]
@@ -35,6 +37,25 @@ fn judge_unloaded(mesh: &Mesh, request: Request, hops: &[Hop]) -> Result<(), Dec
         streams: &[None; 64],
     };
     judge(mesh, limits, request, hops)
+}
+
+// The verdict on a plan.
+fn checked(heap: Global, plan: &[u8]) -> Result<Answer, Failure>
+    ensures { ChecksPlan plan.now result }
+{
+    match check(heap, plan) {
+        Ok(Ok(summary)) => Ok(Answer::Checked(summary)),
+        Ok(Err(fault)) => Err(fault.into()),
+        Err(AllocError) => Err(Mistake::OutOfMemory.into()),
+    }
+}
+
+/// A grid on a mesh, with the width and the height of the mesh.
+#[derive(Clone, Copy)]
+pub struct GridOnMesh<'a> {
+    pub grid: &'a Grid<Mesh>,
+    pub width: u16,
+    pub height: u16,
 }
 
 /// What a script has at hand: the mesh and the grid that it made last, if any.
@@ -67,6 +88,18 @@ impl Session {
         ensures { MatchResult result (λ grid. self.now.grid ≡ Some grid.now) (λ m. (self.now.grid ≡ None) × (m ≡ NoGrid)) }
     {
         self.grid.as_ref().ok_or(Mistake::NoGrid)
+    }
+
+    /// The grid at hand, to be shown, with the width and the height of its mesh; none where none was made.
+    pub fn shown(&self) -> Option<GridOnMesh<'_>>
+        ensures { MatchOption result (self.now.grid ≡ None) (λ shown. Shows shown.grid.now.layout shown.grid.now.tables shown.width shown.height (hand_of self.now)) }
+    {
+        let at_hand = self.grid.as_ref()?;
+        Some(GridOnMesh {
+            grid: &at_hand.grid,
+            width: at_hand.head.width,
+            height: at_hand.head.height,
+        })
     }
 
     /// The answer to a command. A mesh or a grid that is made takes the place of the one at hand; with a grid its mesh is
@@ -142,6 +175,21 @@ impl Session {
                 None => Err(Mistake::NoGrid.into()),
             },
             Command::Write => Ok(self.grid()?.plan()),
+            Command::Check(plan) => checked(heap, plan.as_slice()),
+            Command::Rehearse(strips, beat) => match &mut self.grid {
+                Some(grid) => grid.rehearse(strips, beat),
+                None => Err(Mistake::NoGrid.into()),
+            },
+            Command::Report => Ok(Answer::Report),
+            Command::Streams => {
+                self.grid()?;
+                Ok(Answer::Streams)
+            }
+            Command::Picture => {
+                self.grid()?;
+                Ok(Answer::Picture)
+            }
+            Command::Say => Ok(Answer::Say),
         }
     }
 

@@ -1,6 +1,6 @@
 use Rattle.std.proofs.Common.{vec_items}
 use Rattle.session.specs.Hands.{hand_of}
-use Rattle.session.specs.Sessions.{Opens, Searches, Closes, Sends, Steps, LoadsPlan}
+use Rattle.session.specs.Sessions.{Opens, Searches, Closes, Sends, Steps, LoadsPlan, RehearsesStreams}
 use Rattle.session.proofs.OnGrids.{on_grid, grid_made}
 use Rattle.session.proofs.session.Session.answer.Goals as goal
 
@@ -39,3 +39,8 @@ returns-in-Some-grid-5 c =
     rw c.in-Load.is
     (on_grid (LoadsPlan (vec_items c.in-Load.plan)) c.args.self.now c.in-Some-grid-5.grid c.load.new.self c.load.result c.in-Some-grid-5.is
     (rw c.as_slice-in-Some-grid-5.ensures.value at c.load.ensures))
+
+pub returns-in-Some-grid-6 : goal.returns-in-Some-grid-6
+returns-in-Some-grid-6 c =
+    rw c.in-Rehearse.is
+    (on_grid (RehearsesStreams c.in-Rehearse.strips) c.args.self.now c.in-Some-grid-6.grid c.rehearse.new.self c.rehearse.result c.in-Some-grid-6.is c.rehearse.ensures)

@@ -1,10 +1,11 @@
 -- The head of a plan: version, rule, width, height, lanes, depth, capacity, count of streams.
-use Rattle.std.specs.Prelude.{ℕ, Bool, true, cond, not, ◌&&◌, List, [], ◌∷◌, Some, None, Ok, Err, Option, Result, find, is_some, ◌==◌, nat_le, nat_lt}
+use Rattle.std.specs.Prelude.{ℕ, Bool, true, cond, not, List, [], ◌∷◌, Some, None, Ok, Err, Option, Result, find, is_some, ◌==◌, nat_le, nat_lt}
 use Rattle.refusals.specs.declared.refusal.Refusal.{Refusal}
 use Rattle.refusals.specs.declared.refusal.Refusal.TheVariants.{MeshSize, GridSize, ZeroAmount, BadHead}
 use Rattle.layouts.specs.declared.turn_rule.TurnRule.{TurnRule}
 use Rattle.layouts.specs.declared.turn_rule.TurnRule.TheVariants.{Xy, WestFirst, NorthLast, NegativeFirst}
-use Rattle.routes.specs.Routes.{lanes_allowed}
+use Rattle.layouts.specs.Links.{side_allowed}
+use Rattle.routes.specs.Routes.{lanes_allowed, depth_allowed}
 use Rattle.routes.specs.Loads.{stream_count}
 use Rattle.codec.specs.declared.number.ByteFault.{ByteFault}
 use Rattle.codec.specs.declared.head.GridSizes.{GridSizes}
@@ -88,10 +89,10 @@ number_of h count Count = count
 abbrev pub allowed : HeadPart → ℕ → Bool
 allowed Version n = n == 1
 allowed Rule n = is_some (rule_numbered n)
-allowed Width n = nat_le 2 n && nat_le n 8
-allowed Height n = nat_le 2 n && nat_le n 8
+allowed Width n = side_allowed n
+allowed Height n = side_allowed n
 allowed Lanes n = lanes_allowed n
-allowed Depth n = nat_le 1 n && nat_le n 8
+allowed Depth n = depth_allowed n
 allowed Capacity n = nat_lt 0 n
 allowed Count n = nat_le n stream_count
 

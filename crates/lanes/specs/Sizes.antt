@@ -1,13 +1,13 @@
 -- The size of a grid, and how its lanes and slots are counted.
-use Rattle.std.specs.Prelude.{ℕ, ◌+◌, ◌*◌, Bool, ◌&&◌, None, nat_le}
+use Rattle.std.specs.Prelude.{ℕ, ◌+◌, ◌*◌, Bool, ◌&&◌, None}
 use Rattle.routes.specs.declared.hop.Hop.{Hop}
-use Rattle.routes.specs.Routes.{is_on_grid, lanes_allowed}
+use Rattle.routes.specs.Routes.{is_on_grid, lanes_allowed, depth_allowed}
 use Rattle.model.specs.Grid.{Setting}
 use Rattle.lanes.specs.declared.size.Size.{Size}
 
 -- 1 to 4 lanes, and a depth of 1 to 8
 abbrev pub size_fits : ℕ → ℕ → Bool
-size_fits lanes depth = lanes_allowed lanes && (nat_le 1 depth && nat_le depth 8)
+size_fits lanes depth = lanes_allowed lanes && depth_allowed depth
 
 -- the link and the lane of a hop are there
 abbrev pub holds : Size → Hop → Bool

@@ -14,7 +14,7 @@ use Rattle.layouts.specs.Layout.{Lawful, Outside}
 use Rattle.layouts.specs.Links.{InRange, tile, column, row, Leaves, Inside, start_of, end_of, span_of, link_count, link_at, span_at}
 use Rattle.layouts.specs.Rules.{barred, height_of, turn_of}
 use Rattle.layouts.specs.Mesh.{start_at, end_at, turn_at, height_at, span_height, mesh_meaning}
-use Rattle.layouts.specs.Bounds.{level_le, level_ge, upright_le, tiles_le, tiles_ge}
+use Rattle.layouts.specs.Bounds.{sides, level_le, level_ge, upright_le, tiles_le, tiles_ge}
 use Rattle.layouts.specs.LinkNumbers.{Found, found, start_lt, end_lt}
 use Rattle.layouts.specs.Rising.{back, rising}
 
@@ -50,6 +50,7 @@ module _ (rule : TurnRule) (w h : ℕ) (r : InRange w h) where
   -- two links that make a free turn
   rises_between : (p q : MeshLink) → Inside w h p → Inside w h q → turn_of rule (span_of w p) (span_of w q) ≡ Free → span_height rule (span_of w p) < span_height rule (span_of w q)
   rises_between p q i j e =
+      let s = sides w h r in
       let d = p.direction in
       let free = is_free _ _ e in
       let joined = and_parts _ _ free.0 in

@@ -8,6 +8,7 @@ use Rattle.layouts.specs.declared.direction.Direction.{Direction}
 use Rattle.layouts.specs.declared.direction.Direction.TheVariants.{East, West, North, South}
 use Rattle.layouts.specs.declared.link.MeshLink.{MeshLink}
 use Rattle.layouts.specs.Links.{InRange, column, row, Inside, start_of, end_of, level, upright, link_count, base, place, link_number, mesh_link, link_in, link_at}
+use Rattle.layouts.specs.Bounds.{sides}
 
 -- how many links a block has
 abbrev size : ℕ → ℕ → Direction → ℕ
@@ -29,15 +30,19 @@ module _ (w h : ℕ) (r : InRange w h) where
   -- each place of a block has a link
   in_block : (d : Direction) (j : ℕ) → j < size w h d → Inside w h (link_in w d j) × (link_number w h (link_in w d j) ≡ base w h d + j)
   in_block East j l =
+      let s = sides w h r in
       let c = cell (w - 1) h j (omega arith) l in
       (search rules, omega arith)
   in_block West j l =
+      let s = sides w h r in
       let c = cell (w - 1) h j (omega arith) l in
       (search rules, omega arith)
   in_block North j l =
+      let s = sides w h r in
       let c = cell w (h - 1) j (omega arith) (omega (arith, mul_comm w (h - 1))) in
       (search rules, omega arith)
   in_block South j l =
+      let s = sides w h r in
       let c = cell w (h - 1) j (omega arith) (omega (arith, mul_comm w (h - 1))) in
       let e : j / w + 1 - 1 ≡ j / w = omega arith in
       (search rules, omega (arith, ap (λ n. n * w) e))

@@ -1,14 +1,18 @@
 -- The tiles and links of a mesh of width w and height h.
-use Rattle.std.specs.Prelude.{ℕ, ◌+◌, ◌-◌, ◌*◌, ◌/◌, ◌%◌, ◌<◌, ◌≤◌, cond, Some, None, Option, nat_lt}
+use Rattle.std.specs.Prelude.{◌≡◌, ℕ, ◌+◌, ◌-◌, ◌*◌, ◌/◌, ◌%◌, ◌<◌, Bool, true, ◌&&◌, cond, Some, None, Option, nat_le, nat_lt}
 use Rattle.std.specs.Option.{option_map}
 use Rattle.layouts.specs.declared.direction.Direction.{Direction}
 use Rattle.layouts.specs.declared.direction.Direction.TheVariants.{East, West, North, South}
 use Rattle.layouts.specs.declared.link.MeshLink.{MeshLink}
 use Rattle.layouts.specs.declared.link.Span.{Span}
 
+-- a side of a mesh is 2 to 8 tiles long
+abbrev pub side_allowed : ℕ → Bool
+side_allowed n = nat_le 2 n && nat_le n 8
+
 -- the sizes that a mesh may have
 abbrev pub InRange : ℕ → ℕ → Type 0
-InRange w h = (2 ≤ w) × (w ≤ 8) × (2 ≤ h) × (h ≤ 8)
+InRange w h = (side_allowed w ≡ true) × (side_allowed h ≡ true)
 
 -- the number of the tile in column x and row y
 abbrev pub tile : ℕ → ℕ → ℕ → ℕ

@@ -1,6 +1,5 @@
 -- A head that is accepted asks for a grid that can be made.
-use Rattle.std.proofs.Common.{◌≡◌, ℕ, ◌≤◌, true, ◌&&◌, None, refl, nat_le, IsSome}
-use Rattle.std.proofs.lemmas.Bool.{and_parts, leb-true}
+use Rattle.std.proofs.Common.{◌≡◌, None, refl, IsSome}
 use Rattle.layouts.specs.Links.{InRange}
 use Rattle.codec.specs.declared.head.Head.{Head}
 use Rattle.codec.specs.declared.head.HeadNumbers.{HeadNumbers}
@@ -16,16 +15,11 @@ pub record Makeable (h : Head) : Type 0 where
   pub range : InRange h.width h.height
   pub makes : making_refusal h.lanes h.depth h.capacity ≡ None
 
-within : (low high n : ℕ) → nat_le low n && nat_le n high ≡ true → (low ≤ n) × (n ≤ high)
-within low high n is = let parts = and_parts _ _ is in (leb-true _ _ parts.0, leb-true _ _ parts.1)
-
 pub makeable : (h : HeadNumbers) → IsAccepted h → Makeable (values_of h)
 makeable h is =
     let all = each_allowed (values_of h) h.count.value (sizes_in (values_of h)) is in
-    let width = within 2 8 h.width.value (all Width) in
-    let height = within 2 8 h.height.value (all Height) in
     record {
       rule = all Rule;
-      range = (width.0, width.1, height.0, height.1);
+      range = (all Width, all Height);
       makes = rw (all Lanes, all Depth, all Capacity) refl;
     }

@@ -22,6 +22,10 @@ hop_on link lane = record { link = link; lane = lane }
 abbrev pub lanes_allowed : ℕ → Bool
 lanes_allowed lanes = nat_le 1 lanes && nat_le lanes 4
 
+-- a lane is 1 to 8 items deep
+abbrev pub depth_allowed : ℕ → Bool
+depth_allowed depth = nat_le 1 depth && nat_le depth 8
+
 -- hop k of a route, counted from 0
 abbrev pub hop_at : List Hop → ℕ → Hop
 hop_at hops k = slice_index_or hops k (hop_on 0 0)

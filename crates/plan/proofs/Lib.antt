@@ -1,5 +1,5 @@
 mod HopTables
-mod Loading
+pub mod Loading
 pub mod Listing
 mod Putting
 pub mod Lengths

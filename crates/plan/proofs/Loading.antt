@@ -1,5 +1,5 @@
 -- Records opened one by one.
-use Rattle.std.proofs.Common.{◌≡◌, ℕ, zero, suc, ◌+◌, ◌-◌, ◌<◌, ◌≤◌, true, false, nat_lt, List, length, Some, None, Ok, Err, Option, Result, refl, sym, ap, ◌∙◌, subst, arith}
+use Rattle.std.proofs.Common.{◌≡◌, ℕ, zero, suc, ◌+◌, ◌-◌, ◌<◌, ◌≤◌, true, false, nat_lt, List, [], ◌∷◌, length, Some, None, Ok, Err, Option, Result, refl, sym, ap, ◌∙◌, subst, arith}
 use Rattle.std.proofs.lemmas.Bool.Decides.{nat_tests}
 use Rattle.refusals.specs.declared.refusal.Refusal.TheVariants.{TrailingBytes}
 use Rattle.layouts.specs.Layout.{Meaning}
@@ -18,7 +18,7 @@ use Rattle.codec.specs.Records.{Entry, record_at}
 use Rattle.plan.specs.declared.fault.InRecord.{InRecord}
 use Rattle.plan.specs.declared.fault.LoadFault.{LoadFault}
 use Rattle.plan.specs.declared.fault.LoadFault.TheVariants as fault
-use Rattle.plan.specs.Loads.{Loading, accepted_head, sizes_of, opening_of, records_from, loading_on, ComesTo}
+use Rattle.plan.specs.Loads.{Loading, accepted_head, sizes_of, opening_of, records_from, loading_on, Opens, ComesTo}
 
 -- what the records that are left come to on the tables so far is what the whole comes to on those at the beginning
 pub record Left (m : Meaning) (start : Tables) (whole : Loading) (plan : List ℕ) (t : Tables) (k place n : ℕ) : Type 0 where
@@ -62,6 +62,13 @@ module _ (m : Meaning) (t t' : Tables) (n : ℕ) (q : Request) (hops : List Hop)
   on_opened : Edits m t (opens n q hops) done t' → (plan : List ℕ) (k place count : ℕ) → records_from (setting m t' 0) plan (outline t') k place count
       ≡ records_from (setting m t 0) plan (with_stream (outline t) n (Some (record { request = q; hops = hops }))) k place count
   on_opened edits plan k place count = rw (setting_is done edits, outline_is edits) refl
+
+-- where records are opened one after another, the lanes and the capacity stay
+pub rest_stays : (m : Meaning) (es : List Entry) (t t' : Tables) → Opens m t es t' → (t'.lanes ≡ t.lanes) × (t'.capacity ≡ t.capacity)
+rest_stays m [] t t' made = (made.lanes, made.capacity)
+rest_stays m (e ∷ more) t t' made =
+    let behind = rest_stays m more made.0 t' made.2 in
+    (behind.0 ∙ made.1.lanes, behind.1 ∙ made.1.made.capacity)
 
 -- what has come of a record that is read and not declined
 pub first_opened : (m : Meaning) (plan : List ℕ) (t : Tables) (k place n : ℕ) (e : Entry) (r : Result ℕ LoadFault) (t' : Tables) → record_at plan place ≡ Ok e

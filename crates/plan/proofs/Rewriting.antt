@@ -35,7 +35,8 @@ use Rattle.plan.specs.Buffers.{fitted}
 use Rattle.plan.specs.Loads.{Loading, once_read, at_end, records_from, if_judged, if_read, accepted_head, behind_head, sizes_of, loading_on, Loads, once_accepted}
 use Rattle.plan.specs.Plans.{stream_numbers, open_streams, records_numbers, plan_bytes}
 use Rattle.plan.specs.RoundTrips.{WrittenBack}
-use Rattle.plan.proofs.Rising.{AllBelow, numbered_stream, open_as_told, streams_opened, sizes_stay}
+use Rattle.plan.proofs.Loading.{rest_stays}
+use Rattle.plan.proofs.Rising.{AllBelow, numbered_stream, open_as_told, streams_opened}
 
 -- A record whose stream can be opened: it has a number of the table, and a route that is acceptable with the streams that are open then.
 pub record Opened (m : Meaning) (lanes capacity : ℕ) (e : Entry) : Type 0 where
@@ -170,6 +171,7 @@ written_back m t t' plan all c loads none rise =
     ap open_streams (streams_opened m opened t t' loads.1) ∙ open_as_told opened (streams_in t) rise (all_below _ _ _ opened whole.each) none in
     let count : length (open_streams (streams_in t')) ≡ h.count.value = ap length listed ∙ (length-map opened numbered_stream ∙ whole.count) in
     let judged : judged (values_of h) (length (open_streams (streams_in t'))) (sizes_of t') ≡ Ok tt =
-    rw (count, sizes_stay m opened t t' loads.1) whole.judged in
+    let stays = rest_stays m opened t t' loads.1 in
+    rw (count, stays.0, stays.1) whole.judged in
     let bytes : plan_bytes (values_of h) (streams_in t') ≡ plan = rw (count, listed) (sym whole.bytes) in
     (h, whole.is, λ size room. rw (judged, bytes) (fits size plan room))

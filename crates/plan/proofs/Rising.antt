@@ -12,7 +12,7 @@ use Rattle.grid.specs.declared.tables.Tables.{Tables}
 use Rattle.grid.specs.Views.{streams_in}
 use Rattle.grid.proofs.Sounding.{assign_same}
 use Rattle.codec.specs.Records.{Entry}
-use Rattle.plan.specs.Loads.{stream_in, streams_after, Opens, sizes_of}
+use Rattle.plan.specs.Loads.{stream_in, streams_after, Opens}
 use Rattle.plan.specs.Plans.{listed, open_streams}
 use Rattle.plan.specs.RoundTrips.{Rise}
 use Rattle.plan.proofs.Listing.{not_listed, is_listed}
@@ -74,13 +74,9 @@ pub open_as_told : (es : List Entry) (streams : ℕ → Option OpenStream) → R
 unfolding open_streams
 open_as_told es streams rise below none = listed_as_told stream_count 0 stream_count es streams refl (rising stream_count es rise below) (λ j over. none j)
 
--- the records that were opened tell which streams are open then; lanes, depth and capacity stay
+-- the records that were opened tell which streams are open then
 module _ (m : Meaning) where
   pub streams_opened : (es : List Entry) (t t' : Tables) → Opens m t es t' → streams_in t' ≡ streams_after (streams_in t) es
   streams_opened [] t t' opens = ap streams_of opens.streams
   streams_opened (e ∷ more) t t' opens =
       streams_opened more opens.0 t' opens.2 ∙ ap (λ g. streams_after g.streams more) (outline_is m t opens.0 e.stream e.request e.hops opens.1)
-
-  pub sizes_stay : (es : List Entry) (t t' : Tables) → Opens m t es t' → sizes_of t' ≡ sizes_of t
-  sizes_stay [] t t' opens = rw (opens.lanes, opens.capacity) refl
-  sizes_stay (e ∷ more) t t' opens = sizes_stay more opens.0 t' opens.2 ∙ rw (opens.1.made.size, opens.1.made.capacity) refl

@@ -19,6 +19,7 @@ use Rattle.grid.specs.Makes.{Makes, Edits}
 use Rattle.codec.specs.Records.{Entry}
 use Rattle.plan.specs.declared.fault.LoadFault.{LoadFault}
 use Rattle.plan.specs.Loads.{loading_on, Opens, Loads}
+use Rattle.plan.proofs.Loading.{rest_stays}
 use Rattle.runs.specs.Calls.{load_reply, Shown, MakesOpenings, MakesLoad}
 
 -- the answer of a call that is done, unless it is declined
@@ -94,14 +95,10 @@ opened_each m xs [] t t' made = (made, refl)
 opened_each m xs (e ∷ more) t t' made =
     (made.0, xs, opened m t made.0 xs e.stream None e.request e.hops made.1, opened_each m xs more made.0 t' made.2)
 
-lanes_kept : (m : Meaning) (es : List Entry) (t t' : Tables) → Opens m t es t' → t'.lanes ≡ t.lanes
-lanes_kept m [] t t' made = made.lanes
-lanes_kept m (e ∷ more) t t' made = lanes_kept m more made.0 t' made.2 ∙ made.1.lanes
-
 module _ {T : Type 0} (m : Meaning) (t t' : Tables) (xs : List T) (plan : List ℕ) (r : Result ℕ LoadFault) (loads : Loads m t plan r t') where
   pub loaded : MakesLoad m t xs plan (load_reply r) t' xs
   loaded = (ap load_reply loads.0, opened_each m xs (loading_on m t plan).opened t t' loads.1)
 
   pub shown_loaded : Shown t xs → Shown t' xs
   shown_loaded shown =
-      subst (λ l. without_items (queues_of l xs) ≡ lanes_outline l) (sym (lanes_kept m (loading_on m t plan).opened t t' loads.1)) shown
+      subst (λ l. without_items (queues_of l xs) ≡ lanes_outline l) (sym (rest_stays m (loading_on m t plan).opened t t' loads.1).0) shown

@@ -3,7 +3,7 @@ ghost use Rattle.std.specs.Prelude.{◌≡◌};
 ghost use Rattle.model.specs.Sums.{item_count};
 ghost use Rattle.model.specs.Questions.{fields_of, hops_of_stream, load_on, count_in};
 ghost use Rattle.grid.specs.Views.{streams_in, outline, setting};
-ghost use Rattle.grid.specs.Routes.{TellsRoute};
+ghost use Rattle.grid.specs.Routes.{Puts};
 
 use crate::grid::Grid;
 use lanes::size::Size;
@@ -53,7 +53,7 @@ impl<L: Layout> Grid<L> {
     /// The route of an open stream: its hops are written into the table, from the front, and the rest of the table is not
     /// touched; answers their count. Refuses as `stream` does.
     pub fn route(&self, stream: u16, table: &mut [Hop; 24]) -> Result<usize, Refusal>
-        ensures { TellsRoute (hops_of_stream (streams_in self.now.tables) stream) table.old result table.new }
+        ensures { Puts (hops_of_stream (streams_in self.now.tables) stream) table.old result table.new }
     {
         let route = self.tables.stream(stream)?.route;
         let hops = route.hops();

@@ -4,7 +4,7 @@ use Rattle.std.proofs.lemmas.Bool.{cond_both}
 use Rattle.layouts.specs.Layout.{Meaning}
 use Rattle.routes.specs.declared.declined.Declined.{Declined}
 use Rattle.routes.specs.declared.hop.Hop.{Hop}
-use Rattle.routes.specs.Routes.{OpenStream, hop_on}
+use Rattle.routes.specs.Routes.{OpenStream, hop_on, streams_of}
 use Rattle.model.specs.Grid.{Setting, Queue, Grid, has_room}
 use Rattle.model.specs.Calls.{Call, Answer, declined, Outcome, refuse, unless_declined, forward, outcome}
 use Rattle.model.specs.Slots.{arrival}
@@ -41,7 +41,7 @@ pub lifted : {T : Type 0} (m : Meaning) (t t' : Tables) (xs xs' : List T) (c : C
     → arrival (view t xs) c ≡ b → Handles t.lanes xs o b a t'.lanes xs' → Makes m t xs c a t' xs'
 lifted m t t' xs xs' c o b a streams capacity is arrives handles = record {
   answer = handles.answer ∙ ap (λ o. o.answer) (sym is);
-  grid = ap (λ s. with_streams (Rattle.routes.specs.Routes.streams_of s) (queues_of t'.lanes xs')) streams ∙ ap (with_streams (streams_in t)) handles.queues ∙ ap (λ o. o.grid) (sym is);
+  grid = ap (λ s. with_streams (streams_of s) (queues_of t'.lanes xs')) streams ∙ ap (with_streams (streams_in t)) handles.queues ∙ ap (λ o. o.grid) (sym is);
   slots = handles.slots ∙ rw (is, handles.answer, arrives) refl;
   size = handles.size;
   capacity = capacity;

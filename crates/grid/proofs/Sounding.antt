@@ -14,7 +14,7 @@ use Rattle.routes.specs.Acceptable.{Acceptable}
 use Rattle.routes.proofs.HopLists.{not_used, used_nowhere}
 use Rattle.routes.proofs.Judging.{accepted}
 use Rattle.model.specs.Grid.{assign}
-use Rattle.model.proofs.Puts.{assign_other, assign_each}
+use Rattle.model.proofs.Puts.{assign_same, assign_other, assign_each}
 use Rattle.grid.specs.Sound.{Sound, streams_below}
 
 -- Sums that rise with each of their terms.
@@ -43,10 +43,6 @@ load_rises_by : (streams others : ℕ → Option OpenStream) (link n a b : ℕ) 
 unfolding load
 load_rises_by streams others link n a b low each here =
     sum_rises_by stream_count (λ k. share link (streams k)) (λ k. share link (others k)) n a b low each here
-
-pub assign_same : (streams : ℕ → Option OpenStream) (n : ℕ) (entry : Option OpenStream) → assign streams n entry n ≡ entry
-unfolding assign
-assign_same streams n entry = grind (arith, nat_tests)
 
 -- another entry adds its share at most
 load_with_entry : (streams : ℕ → Option OpenStream) (n : ℕ) (entry : Option OpenStream) (link : ℕ) → n < stream_count

@@ -7,6 +7,10 @@ use Rattle.routes.specs.Routes.{OpenStream}
 use Rattle.model.specs.Grid.{Queue, assign, put}
 
 module _ (streams : ℕ → Option OpenStream) (n : ℕ) (entry : Option OpenStream) where
+  pub assign_same : assign streams n entry n ≡ entry
+  unfolding assign
+  assign_same = grind (arith, nat_tests)
+
   pub assign_other : (k : ℕ) → (k ≡ n → ⊥) → assign streams n entry k ≡ streams k
   unfolding assign
   assign_other k other = grind (arith, nat_tests)

@@ -7,8 +7,8 @@ use Rattle.layouts.specs.Layout.{Meaning, Lawful}
 use Rattle.routes.specs.declared.hop.Hop.{Hop}
 use Rattle.routes.specs.declared.stream.Request.{Request}
 use Rattle.routes.specs.Routes.{OpenStream, hop_at}
-use Rattle.routes.specs.Loads.{sum_below, load}
-use Rattle.routes.specs.Checks.{Terms}
+use Rattle.routes.specs.Loads.{sum_below}
+use Rattle.routes.specs.Checks.{Terms, terms_on}
 use Rattle.routes.specs.Acceptable.{Acceptable}
 use Rattle.routes.proofs.HopLists.{used_nowhere}
 use Rattle.routes.proofs.Judging.{acceptable}
@@ -67,7 +67,7 @@ module _ (m : Meaning) (law : Lawful m) where
     S = on_layout m lanes depth capacity slots
 
     abbrev terms : (ℕ → Option OpenStream) → Terms
-    terms streams = record { layout = m; lanes = lanes; capacity = capacity; load = load streams }
+    terms streams = terms_on m lanes capacity streams
 
     acceptable_sound : (streams : ℕ → Option OpenStream) (q : Request) (hops : List Hop) → Acceptable (terms streams) q hops → Sound m S hops
     acceptable_sound streams q hops a = (

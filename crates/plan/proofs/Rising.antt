@@ -7,10 +7,9 @@ use Rattle.layouts.specs.Layout.{Meaning}
 use Rattle.routes.specs.Routes.{OpenStream, streams_of}
 use Rattle.routes.specs.Loads.{stream_count}
 use Rattle.model.specs.Grid.{assign}
-use Rattle.model.proofs.Puts.{assign_other}
+use Rattle.model.proofs.Puts.{assign_same, assign_other}
 use Rattle.grid.specs.declared.tables.Tables.{Tables}
 use Rattle.grid.specs.Views.{streams_in}
-use Rattle.grid.proofs.Sounding.{assign_same}
 use Rattle.codec.specs.Records.{Entry}
 use Rattle.plan.specs.Loads.{stream_in, streams_after, Opens}
 use Rattle.plan.specs.Plans.{listed, open_streams}

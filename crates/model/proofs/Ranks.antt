@@ -40,19 +40,19 @@ top m = sum_below m.links m.height
 abbrev rank : Meaning → Hop → ℕ
 rank m h = h.lane * suc (top m) + m.height h.link
 
--- A sound route is proper, and the rank rises along it.
-abbrev Sound : Meaning → Setting → List Hop → Type 0
-Sound m S hops = Proper S hops × Rises (rank m) hops
+-- A ranked route is proper, and the rank rises along it.
+abbrev Ranked : Meaning → Setting → List Hop → Type 0
+Ranked m S hops = Proper S hops × Rises (rank m) hops
 
-abbrev pub AllSound : Meaning → Setting → (ℕ → Option OpenStream) → Type 0
-AllSound m S streams = (n : ℕ) → Sound m S (route_of (streams n))
+abbrev pub AllRanked : Meaning → Setting → (ℕ → Option OpenStream) → Type 0
+AllRanked m S streams = (n : ℕ) → Ranked m S (route_of (streams n))
 
-none_sound : (m : Meaning) (S : Setting) → Sound m S []
-none_sound m S = (proper_none S, tt)
+none_ranked : (m : Meaning) (S : Setting) → Ranked m S []
+none_ranked m S = (proper_none S, tt)
 
-assign_sound : (m : Meaning) (S : Setting) (streams : ℕ → Option OpenStream) (n : ℕ) (entry : Option OpenStream)
-    → Sound m S (route_of entry) → AllSound m S streams → AllSound m S (assign streams n entry)
-assign_sound m S streams n entry = assign_each streams n entry (λ _ entry. Sound m S (route_of entry))
+assign_ranked : (m : Meaning) (S : Setting) (streams : ℕ → Option OpenStream) (n : ℕ) (entry : Option OpenStream)
+    → Ranked m S (route_of entry) → AllRanked m S streams → AllRanked m S (assign streams n entry)
+assign_ranked m S streams n entry = assign_each streams n entry (λ _ entry. Ranked m S (route_of entry))
 
 module _ (m : Meaning) (law : Lawful m) where
   turn_rises : (h next : Hop) → h.link < m.links → h.lane ≤ next.lane → (t : Turn) → m.turn h.link next.link ≡ t
@@ -69,8 +69,8 @@ module _ (m : Meaning) (law : Lawful m) where
     abbrev terms : (ℕ → Option OpenStream) → Terms
     terms streams = terms_on m lanes capacity streams
 
-    acceptable_sound : (streams : ℕ → Option OpenStream) (q : Request) (hops : List Hop) → Acceptable (terms streams) q hops → Sound m S hops
-    acceptable_sound streams q hops a = (
+    acceptable_ranked : (streams : ℕ → Option OpenStream) (q : Request) (hops : List Hop) → Acceptable (terms streams) q hops → Ranked m S hops
+    acceptable_ranked streams q hops a = (
       record { on_grid = All-from_get_or (OnGrid S) hops _ a.on_grid; apart = apart_by_place hops a.once },
       rises_by_place (rank m) hops (λ k low.
           let here : k < length hops = omega arith in
@@ -79,13 +79,13 @@ module _ (m : Meaning) (law : Lawful m) where
           (turn_rises (hop_at hops k) (hop_at hops (k + 1)) (a.on_grid k here).0 (a.keeps_lane k next) _ refl (a.turns k next) (a.climbs k next))),
     )
 
-    pub lawful_safe : 1 ≤ depth → Safe S (AllSound m S)
+    pub lawful_safe : 1 ≤ depth → Safe S (AllRanked m S)
     lawful_safe deep = record {
       deep = deep;
-      at_start = λ n. none_sound m S;
-      at_open = λ streams n q hops sound _ judged.
-          assign_sound m S streams n _ (acceptable_sound streams q hops (acceptable (terms streams) q hops judged)) sound;
-      at_close = λ streams n. assign_sound m S streams n None (none_sound m S);
-      proper = λ streams sound n. (sound n).0;
-      ranked = λ streams sound. (rank m, λ n. (sound n).1);
+      at_start = λ n. none_ranked m S;
+      at_open = λ streams n q hops ranked _ judged.
+          assign_ranked m S streams n _ (acceptable_ranked streams q hops (acceptable (terms streams) q hops judged)) ranked;
+      at_close = λ streams n. assign_ranked m S streams n None (none_ranked m S);
+      proper = λ streams ranked n. (ranked n).0;
+      ranked = λ streams ranked. (rank m, λ n. (ranked n).1);
     }

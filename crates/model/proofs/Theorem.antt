@@ -2,9 +2,9 @@
 use Rattle.model.specs.Layouts.{on_layout}
 use Rattle.model.specs.Law.{EveryRun}
 use Rattle.model.proofs.Runs.{keeps}
-use Rattle.model.proofs.Ranks.{AllSound, lawful_safe}
+use Rattle.model.proofs.Ranks.{AllRanked, lawful_safe}
 
 pub every_run : (T : Type 0) → EveryRun T
 every_run T m law lanes depth capacity slots deep =
     let S = on_layout m lanes depth capacity slots in
-    keeps S (AllSound m S) (lawful_safe m law lanes depth capacity slots deep)
+    keeps S (AllRanked m S) (lawful_safe m law lanes depth capacity slots deep)

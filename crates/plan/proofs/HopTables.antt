@@ -9,21 +9,21 @@ use Rattle.codec.specs.Records.{hop_of, hops_in}
 use Rattle.codec.proofs.Sequences.{FirstOf, first_of}
 
 -- The first k hops of some bytes stand in a table, and the rest are read from a place on.
-pub record Held (bytes : List ℕ) (count k place : ℕ) (hops : List Hop) : Type 0 where
+pub record HopsInTable (bytes : List ℕ) (count k place : ℕ) (hops : List Hop) : Type 0 where
   pub table : length hops ≡ 24
   pub rest : ℕ
   pub split : k + rest ≡ count
   pub left : behind bytes place rest ≡ Ok (length bytes)
   pub read : take k hops ++ map hop_of (values_in (numbers_at bytes place rest)) ≡ hops_in bytes count
 
-pub none_held : (bytes : List ℕ) (count : ℕ) (hops : List Hop) → length hops ≡ 24 → behind bytes 0 count ≡ Ok (length bytes) → Held bytes count 0 0 hops
+pub none_held : (bytes : List ℕ) (count : ℕ) (hops : List Hop) → length hops ≡ 24 → behind bytes 0 count ≡ Ok (length bytes) → HopsInTable bytes count 0 0 hops
 none_held bytes count hops table all = record { table = table; rest = count; split = zero-add count; left = all; read = refl }
 
-module _ (bytes : List ℕ) (count k place : ℕ) (hops : List Hop) (held : Held bytes count k place hops) where
+module _ (bytes : List ℕ) (count k place : ℕ) (hops : List Hop) (held : HopsInTable bytes count k place hops) where
   pub one_more : k < count → FirstOf bytes place held.rest (length bytes)
   one_more more = first_of bytes place held.rest (length bytes) (omega (arith, held.split)) held.left
 
-  pub next_held : k < count → count ≤ 24 → (x : Number) → number_at bytes place ≡ Ok x → Held bytes count (k + 1) x.next (set hops k (hop_of x.value))
+  pub next_held : k < count → count ≤ 24 → (x : Number) → number_at bytes place ≡ Ok x → HopsInTable bytes count (k + 1) x.next (set hops k (hop_of x.value))
   next_held more few x is =
       let room : k < length hops = omega (arith, held.table) in
       let next = one_more more in

@@ -45,18 +45,18 @@ module _ {V : Type 0} (s : Scale V) (ordered : Ordered s) (t : Terms) (q : Reque
 -- ---- what a search finds, where nothing declines it
 
 module _ {V : Type 0} (s : Scale V) (refusal : Option Declined) (t : Terms) (q : Request) (free : refusal ≡ None) where
-  abbrev OnlyFinds : Result (List Hop) Declined → Type 0
-  OnlyFinds = Only (Finds refusal s t q)
+  abbrev OnlyAnswer : Result (List Hop) Declined → Type 0
+  OnlyAnswer = Only (Finds refusal s t q)
 
   -- the only best route is found
-  pub only_finds : (hops : List Hop) → OnlyBest s t q hops → OnlyFinds (Ok hops)
+  pub only_finds : (hops : List Hop) → OnlyBest s t q hops → OnlyAnswer (Ok hops)
   only_finds hops only = ((free, only.0), each) where
     each : (r : Result (List Hop) Declined) → Finds refusal s t q r → r ≡ Ok hops
     each (Ok other) found = ap Ok (only.1 other found.1)
     each (Err d) found = ⊎_elim (λ (is : refusal ≡ Some d). let no : None ≡ Some d = sym free ∙ is in cc) (λ none. absurd (none.2 hops only.0.acceptable)) found
 
   -- that there is no route is told
-  pub only_none : NoneAcceptable t q → OnlyFinds (Err (no_hop NoRoute))
+  pub only_none : NoneAcceptable t q → OnlyAnswer (Err (no_hop NoRoute))
   only_none none = (inr (free, refl, none), each) where
     each : (r : Result (List Hop) Declined) → Finds refusal s t q r → r ≡ Err (no_hop NoRoute)
     each (Ok hops) found = absurd (none hops found.1.acceptable)

@@ -1,6 +1,6 @@
 -- No verdict rests on a byte past the first 4096: an accepted head has at most 10, each record that is opened at most 55, and of one that is not
 -- opened at most 87 are read.
-use Rattle.std.proofs.Common.{◌≡◌, ℕ, zero, suc, ◌+◌, ◌*◌, ◌<◌, ◌≤◌, cond, nat_lt, List, [], ◌∷◌, length, take, Some, None, Ok, Err, Option, Result, refl, ap, ◌∙◌, arith}
+use Rattle.std.proofs.Common.{◌≡◌, ℕ, zero, suc, ◌+◌, ◌*◌, ◌<◌, ◌≤◌, cond, nat_lt, List, length, take, Some, None, Ok, Err, Option, Result, refl, ap, ◌∙◌, arith}
 use Rattle.std.proofs.lemmas.Bool.Decides.{nat_tests}
 use Rattle.std.proofs.lemmas.List.{length-take}
 use Rattle.std.specs.Option.{option_map}
@@ -10,13 +10,9 @@ use Rattle.layouts.specs.Layout.{Meaning, Lawful}
 use Rattle.layouts.specs.Law.{mesh_lawful}
 use Rattle.layouts.specs.Mesh.{mesh_meaning}
 use Rattle.routes.specs.declared.declined.Declined.{Declined}
-use Rattle.routes.specs.Loads.{stream_count}
-use Rattle.routes.specs.Checks.{terms_on, judgement}
-use Rattle.routes.proofs.Firsts.{first_none}
-use Rattle.routes.proofs.Judging.{acceptable}
 use Rattle.model.specs.Grid.{Setting, Grid, blank}
 use Rattle.model.specs.Layouts.{on_layout}
-use Rattle.model.specs.Calls.{declines, vacancy, open_refusal, opening}
+use Rattle.model.specs.Calls.{open_refusal, opening}
 use Rattle.codec.specs.declared.head.HeadFault.{HeadFault}
 use Rattle.codec.specs.declared.head.HeadNumbers.{HeadNumbers}
 use Rattle.codec.specs.declared.number.ByteFault.{ByteFault}
@@ -24,13 +20,14 @@ use Rattle.codec.specs.Heads.{head_at, values_of, judged, head_numbers, rule_num
 use Rattle.codec.specs.Records.{Entry, record_at, record_numbers}
 use Rattle.codec.proofs.Standing.{Bytes}
 use Rattle.codec.proofs.Heading.{head_stands}
-use Rattle.codec.proofs.RecordBytes.{hops_counted, record_stands}
+use Rattle.codec.proofs.RecordBytes.{record_stands}
 use Rattle.codec.proofs.Cutting.{head_cut, record_cut}
 use Rattle.plan.specs.declared.fault.LoadFault.TheVariants as fault
 use Rattle.plan.specs.Loads.{Loading, ends, and_on, once_read, at_end, records_from, if_judged, once_accepted, stream_in}
 use Rattle.plan.specs.Verdicts.{sizes_in, IsAccepted, by_itself, summed, loading_blank, on_mesh, on_own_grid, verdict_of}
 use Rattle.plan.proofs.Accepted.{makeable}
 use Rattle.plan.proofs.Lengths.{record_short, small_route, small_head, head_short}
+use Rattle.plan.proofs.Rewriting.{can_open, hops_whole}
 
 -- loading comes to the same where it goes on alike behind a record that is read, and behind one that is opened
 once_same : (k : ℕ) (r : Result Entry ByteFault) (f g : Entry → Loading) → ((e : Entry) → r ≡ Ok e → f e ≡ g e) → once_read k r f ≡ once_read k r g
@@ -52,14 +49,12 @@ module _ (m : Meaning) (law : Lawful m) (lanes depth capacity : ℕ) (few : lane
 
   -- a record that is opened has small numbers
   opened_short : {T : Type 0} (place : ℕ) (g : Grid T) (e : Entry) → record_at plan place ≡ Ok e → open_refusal S g e.stream e.request e.hops ≡ None → e.next ≤ place + 55
-  unfolding open_refusal record_numbers
+  unfolding record_numbers
   opened_short place g e is none =
-      let both = first_none (declines (vacancy g.streams e.stream) ∷ (judgement (terms_on m lanes capacity g.streams) e.request e.hops ∷ [])) none in
-      let there : e.stream < stream_count = grind (arith, nat_tests, both.0) in
-      let route = acceptable _ e.request e.hops both.1.0 in
-      let whole : length e.hops ≡ e.count = grind (arith, nat_tests, hops_counted plan place e is, route.count.0) in
+      let can = can_open m lanes depth capacity 0 g e none in
+      let whole = hops_whole plan place e is can.route.count.0 in
       let stands = record_stands plan place e all is whole in
-      omega (arith, stands.next, record_short e.stream (stream_in e) (small_route m law lanes capacity few g.streams e.stream (stream_in e) there route))
+      omega (arith, stands.next, record_short e.stream (stream_in e) (small_route m law lanes capacity few can.streams e.stream (stream_in e) can.number can.route))
 
   records_cut : {T : Type 0} (size n k place : ℕ) (g : Grid T) → place + 55 * n + 87 ≤ size → records_from S (take size plan) g k place n ≡ records_from S plan g k place n
   unfolding records_from

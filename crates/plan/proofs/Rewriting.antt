@@ -47,7 +47,8 @@ pub record Opened (m : Meaning) (lanes capacity : ℕ) (e : Entry) : Type 0 wher
 vacant : (streams : ℕ → Option OpenStream) (n : ℕ) → declines (vacancy streams n) ≡ None → n < stream_count
 vacant streams n none = grind (arith, nat_tests)
 
-can_open : {T : Type 0} (m : Meaning) (lanes depth capacity slots : ℕ) (g : Grid T) (e : Entry)
+-- so it is of a record whose stream is not declined
+pub can_open : {T : Type 0} (m : Meaning) (lanes depth capacity slots : ℕ) (g : Grid T) (e : Entry)
     → open_refusal (on_layout m lanes depth capacity slots) g e.stream e.request e.hops ≡ None → Opened m lanes capacity e
 unfolding open_refusal
 can_open m lanes depth capacity slots g e none =
@@ -55,7 +56,7 @@ can_open m lanes depth capacity slots g e none =
     record { number = vacant g.streams e.stream both.0; streams = g.streams; route = acceptable _ e.request e.hops both.1.0 }
 
 -- its hops are all read
-hops_whole : (plan : List ℕ) (start : ℕ) (e : Entry) → record_at plan start ≡ Ok e → 1 ≤ length e.hops → length e.hops ≡ e.count
+pub hops_whole : (plan : List ℕ) (start : ℕ) (e : Entry) → record_at plan start ≡ Ok e → 1 ≤ length e.hops → length e.hops ≡ e.count
 hops_whole plan start e is some =
     let counted = hops_counted plan start e is in
     grind (arith, nat_tests, counted)

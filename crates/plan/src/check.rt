@@ -16,7 +16,7 @@ use grid::make::MakeError;
 use layouts::mesh::Mesh;
 use std::alloc::{AllocError, Global};
 
-/// How many bytes of a plan are looked at.
+/// How many bytes of a plan `check` looks at.
 pub const LIMIT: usize = 4096;
 
 // The bytes of a plan that are looked at.
@@ -106,7 +106,7 @@ fn summed(heap: Global, plan: &[u8]) -> Result<Summary, NoSummary>
 pub fn check(heap: Global, plan: &[u8]) -> Result<Verdict, AllocError>
     ensures verdict { IfOk result (λ verdict. verdict ≡ verdict_of (take LIMIT plan.now)) }
     ensures whole { IfOk result (λ verdict. verdict ≡ verdict_of plan.now) }
-    ensures starved { IfErr result (λ _. IsOk (own_head (take LIMIT plan.now))) }
+    ensures no_memory { IfErr result (λ _. IsOk (own_head (take LIMIT plan.now))) }
 {
     match summed(heap, first_bytes(plan)) {
         Ok(summary) => Ok(Ok(summary)),

@@ -7,7 +7,7 @@ ghost use Rattle.refusals.specs.Numbers.{refusal_number};
 pub enum Refusal {
     /// The width or the height of a mesh lies outside 2 to 8.
     MeshSize = 1,
-    /// The count of lanes or the depth of a grid is out of range.
+    /// The count of lanes of a grid lies outside 1 to 4, or its depth outside 1 to 8.
     GridSize = 2,
     /// The item slots or the scratch that the caller lends are too few.
     TooFewSlots = 3,
@@ -37,30 +37,30 @@ pub enum Refusal {
     RepeatedLink = 15,
     /// The load of a link would pass the capacity.
     OverCapacity = 16,
-    /// There is no route.
+    /// No route is acceptable.
     NoRoute = 17,
     /// The stream has items on the grid.
     ItemsOnGrid = 18,
-    /// The lane is full.
+    /// The lane that an item is to be put into is full.
     LaneFull = 19,
     /// The lane has no item.
     LaneEmpty = 20,
     /// The lane that the item would go to is full.
     Held = 21,
-    /// The bytes end before a number does.
+    /// The bytes end before a number does, with fewer than three of it there.
     NumberCut = 22,
     /// The bytes of a number are not the fewest, go on past the third, or make more than 65,535.
     NumberForm = 23,
-    /// The head of a plan is not allowed, or does not fit the grid.
+    /// The version, the rule or the count of streams in the head of a plan is not allowed, or the head does not fit the grid.
     BadHead = 24,
     /// Bytes stand behind the last record of a plan.
     TrailingBytes = 25,
-    /// The buffer is too short.
+    /// The buffer for a plan or for a line is too short.
     BufferTooShort = 26,
 }
 
 impl Refusal {
-    /// The number that stands for the refusal in answers and in the documents.
+    /// The number that stands for the refusal in answers and in the documents, 1 to 26.
     pub fn number(self) -> u8
         ensures { result ≡ refusal_number self }
     {

@@ -1,10 +1,14 @@
 // The ways in which a link of a mesh can lead.
 
-/// East raises the column by one and north the row; west and south lower them.
+/// The way in which a link of a mesh leads.
 #[derive(Clone, Copy)]
 pub enum Direction {
+    /// One column up.
     East,
+    /// One column down.
     West,
+    /// One row up.
     North,
+    /// One row down.
     South,
 }

@@ -6,7 +6,8 @@ use crate::turn::Turn;
 
 /// Tiles and one-way links, each numbered from 0, and a word for every two links in a row.
 ///
-/// A layout is known by its meaning: its answers, and a height for each link that no call tells.
+/// A layout is known by its meaning: its answers, and a height for each link that no call tells. Every call takes every number and
+/// refuses none.
 pub trait Layout {
     // what the layout answers, and how high its links lie
     ghost meaning: { Self → Meaning };
@@ -29,7 +30,7 @@ pub trait Layout {
     fn end(&self, link: u16) -> u16
         ensures { result ≡ (meaning self.now).end link };
 
-    /// What is told of link a followed by link b: `Never` where either is no link.
+    /// How a route may take link b right after link a: `Never` where either is no link.
     fn turn(&self, a: u16, b: u16) -> Turn
         ensures { result ≡ (meaning self.now).turn a b };
 

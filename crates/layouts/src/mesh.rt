@@ -21,7 +21,8 @@ pub struct Mesh {
 impl Mesh {
     /// The mesh of a rule, a width and a height. Refuses a width or a height outside 2 to 8 by `MeshSize`.
     ///
-    /// The mesh is told twice: by the numbers of its links, as it computes its answers, and by the links themselves.
+    /// Its contract tells the mesh twice: by the numbers of its links, from which the answers are computed, and by the links
+    /// themselves.
     pub fn new(rule: TurnRule, width: u16, height: u16) -> Result<Mesh, Refusal>
         ensures value { MatchResult result (λ m. InRange width height × (meaning_of m ≡ mesh_meaning rule width height)) (λ e. (InRange width height → ⊥) × (e ≡ MeshSize)) }
         ensures numbered { IfOk result (λ m. IsMesh rule width height (meaning_of m)) }

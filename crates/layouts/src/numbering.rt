@@ -9,7 +9,7 @@ use crate::size::Size;
 use refusals::refusal::Refusal;
 
 impl Size {
-    /// A size; a width or a height outside 2 to 8 is refused.
+    /// A size. Refuses a width or a height outside 2 to 8 by `MeshSize`.
     pub(crate) fn new(width: u16, height: u16) -> Result<Size, Refusal>
         ensures { MatchResult result (λ s. (s.width ≡ width) × (s.height ≡ height)) (λ e. (e ≡ MeshSize) × (InRange width height → ⊥)) }
     {

@@ -1,4 +1,4 @@
-// What a layout tells of one link followed by another.
+// Turns.
 ghost use Rattle.std.specs.Prelude.{Some};
 ghost use Rattle.layouts.specs.Turns.{word_of};
 

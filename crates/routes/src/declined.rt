@@ -1,13 +1,15 @@
-// Why a route is declined.
+// Refusals that may tell a hop.
 ghost use Rattle.std.specs.Prelude.{◌≡◌};
 ghost use Rattle.routes.specs.Checks.{no_hop};
 
 use refusals::refusal::Refusal;
 
-/// A refusal, with the hop of the route at which it was met, counted from 0, where it tells one.
+/// Why a stream is declined: a refusal, with the hop that it tells, if it tells one.
 #[derive(Clone, Copy, PartialEq, Eq, Debug)]
 pub struct Declined {
+    /// Why it is declined.
     pub refusal: Refusal,
+    /// The hop of the route that is to blame, counted from 0.
     pub hop: Option<usize>,
 }
 

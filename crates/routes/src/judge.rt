@@ -14,12 +14,14 @@ use layouts::layout::Layout;
 use layouts::turn::Turn;
 use refusals::refusal::Refusal;
 
-/// What the links of a grid offer: how many lanes each has, how much demand each can bear, and the open streams, by their
-/// numbers, which load them.
+/// What routes are judged by, next to the layout.
 #[derive(Clone, Copy)]
 pub struct Limits<'a> {
+    /// How many lanes each link has.
     pub lanes: u16,
+    /// How much demand each link can bear.
     pub capacity: u16,
+    /// The open streams by their numbers, which load the links.
     pub streams: &'a [Option<Stream>; 64],
 }
 
@@ -65,8 +67,8 @@ fn fails<L: Layout>(
     }
 }
 
-/// Judges the fields of a stream: `BadEndpoints` unless source and target are two tiles of the layout, then `ZeroAmount`
-/// for a demand of 0.
+/// Judges the fields of a stream. Refuses a source or a target that is no tile of the layout, and both the same, by
+/// `BadEndpoints`, and then a demand of 0 by `ZeroAmount`.
 pub fn judge_fields<L: Layout>(layout: &L, request: Request) -> Result<(), Declined>
     ensures { result ≡ verdict (first_of (field_checks (L.meaning layout.now) request)) }
 {
@@ -80,7 +82,21 @@ pub fn judge_fields<L: Layout>(layout: &L, request: Request) -> Result<(), Decli
     Ok(())
 }
 
-/// Judges a route: the first refusal, with the first hop that meets it, or none exactly where the route is acceptable.
+/// Judges a route of these hops for a stream of these fields. It is refused exactly where it is not acceptable, by the first
+/// of these refusals:
+///
+/// - what `judge_fields` refuses;
+/// - no hop, or more than 24, by `HopCount`;
+/// - a link or a lane that is not there by `OffGrid`;
+/// - a first link that does not start at the source by `WrongStart`;
+/// - two hops in turn of which the layout tells *never* by `NoTurn`;
+/// - a lane that falls, or does not rise where the layout tells *climb*, by `LaneTooLow`;
+/// - a last link that does not end at the target by `WrongEnd`;
+/// - a link that stands twice by `RepeatedLink`;
+/// - a link whose load would pass the capacity by `OverCapacity`.
+///
+/// From `OffGrid` on, each is looked for over the whole route ahead of the next, and is told with the first hop that is to
+/// blame: of two hops in turn the second, of a link that stands twice the later hop.
 pub fn judge<L: Layout>(
     layout: &L,
     limits: Limits<'_>,

@@ -16,7 +16,7 @@ pub(crate) fn count_fits(hops: &[Hop]) -> bool
 
 impl Route {
     // Not `TryFrom<&[Hop]>`: a caller with an array would have to write `&hops[..]`.
-    /// The route of these hops. Refuses none, and more than 24, by `HopCount`.
+    /// The route of these hops. Refuses no hop, and more than 24, by `HopCount`.
     pub fn new(hops: &[Hop]) -> Result<Route, Refusal>
         ensures { MatchResult result (λ route. (count_fits hops.now ≡ true) × (hops_of route ≡ hops.now)) (λ e. (count_fits hops.now ≡ false) × (e ≡ HopCount)) }
     {

@@ -4,17 +4,21 @@ ghost use Rattle.search.specs.ScaleLaws.{choice_ordered, choice_antisymmetric};
 
 use crate::measure::Measure;
 
-/// A value of one of two kinds.
+/// A value of one of two measures.
 #[derive(Clone, Copy, PartialEq, Eq, Debug)]
 pub enum Either<V, W> {
+    /// A value of the first; it is below every value of the second.
     First(V),
+    /// A value of the second.
     Second(W),
 }
 
 /// Two measures, and which of them is meant. So calls of one type can have different measures.
 #[derive(Clone, Copy, PartialEq, Eq, Debug)]
 pub struct Choice<A, B> {
+    /// The measure that is meant unless `is_second`.
     pub first: A,
+    /// The measure that is meant if `is_second`.
     pub second: B,
     /// Whether the second is meant.
     pub is_second: bool,

@@ -47,8 +47,9 @@ impl<L: Layout, M: Measure> Search<'_, L, M> {
 /// round that reaches the target ends the search, and the route is read back through the marks. On that route no link stands twice, since
 /// the walk without the hops between would have arrived earlier.
 ///
-/// Refuses lanes outside 1 to 4 by `GridSize`, scratch that is too small by `TooFewSlots`, fields by `BadEndpoints` and
-/// `ZeroAmount`; where nothing of this is refused, it says `NoRoute` exactly if no route is acceptable.
+/// Refuses, in this order, lanes outside 1 to 4 by `GridSize`, scratch that `check_scratch` refuses by `TooFewSlots`, and what
+/// `judge_fields` refuses by `BadEndpoints` and `ZeroAmount`; where nothing of this is refused, it refuses by `NoRoute` exactly if
+/// no route is acceptable. No refusal tells a hop.
 pub fn find<L: Layout, M: Measure>(
     layout: &L,
     limits: Limits<'_>,

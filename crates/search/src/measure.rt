@@ -20,7 +20,7 @@ pub trait Measure {
     fn extend(&self, value: Self::Value, load: u16) -> Self::Value
         ensures { result ≡ (scale self.now).extend value load };
 
-    /// Whether p is not above q.
+    /// Whether p is not above q, in the order of the measure.
     fn not_above(&self, p: Self::Value, q: Self::Value) -> bool
         ensures { result ≡ (scale self.now).not_above p q };
 

@@ -7,60 +7,89 @@ use crate::number::{ByteFault, Number, read_number};
 use layouts::turn_rule::TurnRule;
 use refusals::refusal::Refusal;
 
-/// The numbers of a plan's head, but the count of its streams.
+/// The numbers of a plan's head, but the count of its streams. They may be any numbers until `judge_head` has judged them.
 #[derive(Clone, Copy, PartialEq, Eq, Debug)]
 pub struct Head {
+    /// The version of the format.
     pub version: u16,
+    /// The number of the turn rule.
     pub rule: u16,
+    /// How many tiles wide the mesh is.
     pub width: u16,
+    /// How many tiles high it is.
     pub height: u16,
+    /// How many lanes a link has.
     pub lanes: u16,
+    /// How many items a lane holds.
     pub depth: u16,
+    /// How much demand a link can bear.
     pub capacity: u16,
 }
 
 /// The sizes of a grid that a head has to fit.
 #[derive(Clone, Copy, PartialEq, Eq, Debug)]
 pub struct GridSizes {
+    /// How many lanes a link has.
     pub lanes: u16,
+    /// How many items a lane holds.
     pub depth: u16,
+    /// How much demand a link can bear.
     pub capacity: u16,
 }
 
-/// A number of the head, in the order in which they stand.
+/// One of the numbers of a head, in the order in which they stand.
 #[derive(Clone, Copy, PartialEq, Eq, Debug)]
 pub enum HeadPart {
+    /// The version of the format.
     Version,
+    /// The number of the turn rule.
     Rule,
+    /// How many tiles wide the mesh is.
     Width,
+    /// How many tiles high it is.
     Height,
+    /// How many lanes a link has.
     Lanes,
+    /// How many items a lane holds.
     Depth,
+    /// How much demand a link can bear.
     Capacity,
+    /// How many streams the plan has.
     Count,
 }
 
 /// Why a head is refused, and at which of its numbers.
 #[derive(Clone, Copy, PartialEq, Eq, Debug)]
 pub struct HeadFault {
+    /// Why it is refused.
     pub refusal: Refusal,
+    /// The number that is to blame.
     pub part: HeadPart,
 }
 
 /// The numbers of a head as they stand in a plan.
 #[derive(Clone, Copy, PartialEq, Eq, Debug)]
 pub struct HeadNumbers {
+    /// The version of the format.
     pub version: Number,
+    /// The number of the turn rule.
     pub rule: Number,
+    /// How many tiles wide the mesh is.
     pub width: Number,
+    /// How many tiles high it is.
     pub height: Number,
+    /// How many lanes a link has.
     pub lanes: Number,
+    /// How many items a lane holds.
     pub depth: Number,
+    /// How much demand a link can bear.
     pub capacity: Number,
+    /// How many streams the plan has.
     pub count: Number,
 }
 
-/// The turn rule that a number in a head stands for.
+/// The turn rule that a number in a head stands for: 1 `Xy`, 2 `WestFirst`, 3 `NorthLast`, 4 `NegativeFirst`; none for any
+/// other number.
 pub fn rule_numbered(number: u16) -> Option<TurnRule>
     ensures { result ≡ rule_numbered number }
 {
@@ -168,12 +197,12 @@ impl Head {
     }
 }
 
-/// Judges the head of a plan of so many streams: the first of its numbers that is not allowed, and else the first that does not fit the
-/// grid.
+/// Judges the head of a plan of so many streams, its numbers in the order in which they stand, and last whether it fits the grid. A
+/// fault tells which number is to blame.
 ///
-/// Refuses a version other than 1, a rule outside 1 to 4 and more than 64 streams by `BadHead`, a width or height outside 2 to 8 by
-/// `MeshSize`, lanes outside 1 to 4 and a depth outside 1 to 8 by `GridSize`, a capacity of 0 by `ZeroAmount`; and then, by `BadHead`,
-/// lanes, a depth or a capacity other than those of the grid.
+/// Refuses, in this order, a version other than 1 and a rule outside 1 to 4 by `BadHead`, a width and a height outside 2 to 8 by
+/// `MeshSize`, lanes outside 1 to 4 and a depth outside 1 to 8 by `GridSize`, a capacity of 0 by `ZeroAmount`, more than 64 streams by
+/// `BadHead`, and then, by `BadHead` too, lanes, a depth or a capacity other than those of the grid.
 pub fn judge_head(head: &Head, count: u16, grid: GridSizes) -> Result<(), HeadFault>
     ensures { result ≡ judged head.now count grid }
 {

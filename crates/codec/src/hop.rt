@@ -4,7 +4,7 @@ ghost use Rattle.codec.specs.Records.{hop_of};
 
 use routes::hop::Hop;
 
-/// The hop that a number stands for.
+/// The hop that a number of a plan stands for: the link is a quarter of it, rounded down, and the lane is what is left.
 pub fn hop_of(number: u16) -> Hop
     ensures { result ≡ hop_of number }
 {

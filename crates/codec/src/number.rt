@@ -7,7 +7,7 @@ use refusals::refusal::Refusal;
 /// Why no number can be read at a byte of a plan.
 #[derive(Clone, Copy, PartialEq, Eq, Debug)]
 pub enum ByteFault {
-    /// The bytes end before the number that starts at this byte does.
+    /// The bytes end before the number that starts at this byte does, with fewer than three of it there.
     Cut(usize),
     /// The number that starts at this byte does not have its form: it is not written in the fewest bytes, goes on past the third, or is
     /// above 65535.
@@ -15,7 +15,7 @@ pub enum ByteFault {
 }
 
 impl ByteFault {
-    /// Why no number can be read.
+    /// Why no number can be read: `NumberCut` or `NumberForm`.
     pub fn refusal(self) -> Refusal
         ensures { result ≡ byte_refusal self }
     {
@@ -35,11 +35,14 @@ impl ByteFault {
     }
 }
 
-/// A number of a plan, the byte at which it starts, and the one behind its last.
+/// A number of a plan, and where it stands.
 #[derive(Clone, Copy, PartialEq, Eq, Debug)]
 pub struct Number {
+    /// The number itself.
     pub value: u16,
+    /// The byte at which it starts.
     pub place: usize,
+    /// The byte behind its last.
     pub next: usize,
 }
 
@@ -50,7 +53,10 @@ fn bytes_from(plan: &[u8], place: usize) -> &[u8]
     &plan[place.min(plan.len())..]
 }
 
-/// Reads the number that starts at a byte of a plan, or tells why there is none.
+/// Reads the number that starts at a byte of a plan.
+///
+/// Fails by `Cut` where the bytes end before the number does, with fewer than three of it there; and by `Form` where it is not written
+/// in the fewest bytes, its third byte says that another follows, or it is above 65535.
 #[tactic(auto, unfolding(crate::specs::Numbers::number_bytes))]
 pub fn read_number(plan: &[u8], place: usize) -> Result<Number, ByteFault>
     ensures value { result ≡ number_at plan.now place }

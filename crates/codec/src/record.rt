@@ -6,15 +6,20 @@ ghost use Rattle.codec.specs.Records.{hops_read, record_numbers, entry_of, Reads
 use crate::number::{ByteFault, read_number};
 use routes::stream::Request;
 
-/// A record of a plan: a stream, what it asks for, and the count of its hops. The bytes of the hops are a part of the plan itself, from
-/// `place` up to `next`; where the count is above 24, no hop is read, and they are none.
+/// A record of a plan: a stream, what it asks for, and its hops, whose bytes are a part of the plan itself.
 #[derive(Clone, Copy)]
 pub struct Record<'a> {
+    /// The number of the stream.
     pub stream: u16,
+    /// What the stream asks for.
     pub request: Request,
+    /// The count of its hops, as it is written.
     pub count: u16,
+    /// The bytes of the hops: those of the plan from `place` up to `next`. Where the count is above 24, no hop is read, and they are none.
     pub hops: &'a [u8],
+    /// The byte of the plan at which the hops start.
     pub place: usize,
+    /// The byte of the plan behind the last hop that is read.
     pub next: usize,
 }
 

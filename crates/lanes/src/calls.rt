@@ -66,8 +66,9 @@ impl Lanes {
         Ok(self.leave(slots, k))
     }
 
-    /// Takes the front off a lane and puts it at the back of another; answers its stream. Refuses as `front` does, a
-    /// link or a lane to go to that is not there by `OffGrid`, and a full lane to go to by `Held`.
+    /// Takes the front off a lane and puts it at the back of another; answers its stream. Refuses too few slots by
+    /// `TooFewSlots`, a link or a lane of either hop that is not there by `OffGrid`, a lane with no item by `LaneEmpty`, and a
+    /// full lane to go to by `Held`.
     pub fn shift<T: Copy>(&mut self, slots: &mut [T], from: Hop, to: Hop) -> Result<u16, Refusal>
         ensures { Shifts self.old slots.old from to result self.new slots.new }
     {

@@ -7,7 +7,7 @@ use crate::ring::Ring;
 use crate::size::Size;
 
 /// The queues of all lanes. An item stands in a slot that the caller lends; the tables keep where the items of each lane
-/// are, and the stream of each slot's item.
+/// are, and the stream of each slot's item. A call that refuses changes nothing.
 #[derive(Drop)]
 pub struct Lanes {
     pub(crate) size: Size,

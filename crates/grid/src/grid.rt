@@ -7,7 +7,7 @@ use crate::tables::Tables;
 use layouts::layout::Layout;
 
 /// A grid: a layout, the open streams, and the queues of its lanes. The items stand in slots that the caller lends at each
-/// call.
+/// call. A call that refuses changes nothing, but that a seek may have written its scratch.
 #[derive(Drop)]
 pub struct Grid<L: Layout> {
     pub(crate) layout: L,

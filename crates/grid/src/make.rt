@@ -21,6 +21,7 @@ pub enum MakeError {
     OutOfMemory,
 }
 
+/// A refusal, as it is.
 impl From<Refusal> for MakeError {
     ghost from_gives = { λ refusal error. error ≡ Refused refusal };
 
@@ -29,6 +30,7 @@ impl From<Refusal> for MakeError {
     }
 }
 
+/// Want of memory.
 impl From<AllocError> for MakeError {
     ghost from_gives = { λ _ error. error ≡ OutOfMemory };
 
@@ -52,7 +54,8 @@ impl<L: Layout + Drop> Grid<L> {
     /// A grid on a layout, with no stream and no item: so many lanes for each link, so many items to a lane, and one capacity
     /// for every link. No later call allocates.
     ///
-    /// Refuses lanes outside 1 to 4 and a depth outside 1 to 8 by `GridSize`, and a capacity of 0 by `ZeroAmount`.
+    /// Refuses lanes outside 1 to 4 and a depth outside 1 to 8 by `GridSize`, and then a capacity of 0 by `ZeroAmount`. Fails by
+    /// `OutOfMemory` where nothing is refused and there is no memory for the tables.
     pub fn blank(
         heap: Global,
         layout: L,

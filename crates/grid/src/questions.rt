@@ -14,14 +14,14 @@ use routes::load::link_load;
 use routes::stream::{Request, Stream};
 
 impl<L: Layout> Grid<L> {
-    /// The layout.
+    /// The layout of the grid.
     pub fn layout(&self) -> &L
         ensures { result.now ≡ self.now.layout }
     {
         &self.layout
     }
 
-    /// How many links, lanes and places to a lane there are.
+    /// How many links there are, how many lanes a link has, and how many items a lane holds.
     pub fn size(&self) -> Size
         ensures { result ≡ self.now.tables.lanes.size }
     {

@@ -19,8 +19,9 @@ impl<L: Layout> Grid<L> {
     /// `marks_needed`). What is in it afterwards is left open, and so is which of equally good routes is taken; what is lent beyond it is
     /// not touched.
     ///
-    /// Refuses scratch that is too small by `TooFewSlots`, a number above 63 by `NoSuchStream`, an open stream by `AlreadyOpen`, fields
-    /// by `BadEndpoints` and `ZeroAmount`; where nothing of this is refused, it says `NoRoute` exactly if `open` would take no route.
+    /// Refuses, in this order, scratch that is too small by `TooFewSlots`, a number above 63 by `NoSuchStream`, an open stream by
+    /// `AlreadyOpen`, and fields by `BadEndpoints` and `ZeroAmount`; where nothing of this is refused, it refuses by `NoRoute` exactly
+    /// if `open` would take no route. No refusal tells a hop.
     pub fn seek<M: Measure>(
         &mut self,
         stream: u16,

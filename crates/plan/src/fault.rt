@@ -6,18 +6,21 @@ use codec::number::ByteFault;
 use refusals::refusal::Refusal;
 use routes::declined::Declined;
 
-/// A fault met in a record of a plan, with the record's number, counted from 0.
+/// A fault met in a record of a plan; records are counted from 0.
 #[derive(Clone, Copy, PartialEq, Eq, Debug)]
 pub struct InRecord<F> {
+    /// The number of the record.
     pub number: usize,
+    /// The fault itself.
     pub fault: F,
 }
 
-/// Why a plan is refused as a whole, and where: the byte at which the number of its head starts that is to blame, or the first byte behind its
-/// last record.
+/// Why a plan is refused as a whole, and where.
 #[derive(Clone, Copy, PartialEq, Eq, Debug)]
 pub struct PlanFault {
+    /// Why it is refused.
     pub refusal: Refusal,
+    /// The byte at which the number of its head starts that is to blame, or the first byte behind its last record.
     pub place: usize,
 }
 
@@ -34,6 +37,7 @@ pub enum LoadFault {
     Grid(InRecord<Declined>),
 }
 
+/// A number of the head that cannot be read.
 impl From<ByteFault> for LoadFault {
     ghost from_gives = { λ fault f. f ≡ HeadBytes fault };
 
@@ -42,6 +46,7 @@ impl From<ByteFault> for LoadFault {
     }
 }
 
+/// A number of a record that cannot be read.
 impl From<InRecord<ByteFault>> for LoadFault {
     ghost from_gives = { λ fault f. f ≡ RecordBytes fault };
 
@@ -50,6 +55,7 @@ impl From<InRecord<ByteFault>> for LoadFault {
     }
 }
 
+/// A fault of the plan as a whole.
 impl From<PlanFault> for LoadFault {
     ghost from_gives = { λ fault f. f ≡ Plan fault };
 
@@ -58,6 +64,7 @@ impl From<PlanFault> for LoadFault {
     }
 }
 
+/// A record's stream that the grid declines.
 impl From<InRecord<Declined>> for LoadFault {
     ghost from_gives = { λ fault f. f ≡ Grid fault };
 

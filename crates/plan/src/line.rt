@@ -10,11 +10,14 @@ use itoa::Buffer;
 use refusals::refusal::Refusal;
 use std::fmt;
 
-/// What a grid bears: how many streams are open, how many hops their routes have together, and the largest load of a link.
+/// What a grid bears.
 #[derive(Clone, Copy, PartialEq, Eq, Debug)]
 pub struct Summary {
+    /// How many streams are open.
     pub streams: u16,
+    /// How many hops their routes have together.
     pub hops: usize,
+    /// The largest load of a link.
     pub load: u32,
 }
 
@@ -43,7 +46,7 @@ fn push_field(text: &mut Text, field: Option<usize>)
 }
 
 impl LoadFault {
-    /// What is to blame: 1 the bytes, 2 the plan, 3 the grid.
+    /// The layer that the fault is of: 1 the bytes, 2 the plan as a whole, 3 the grid.
     pub fn layer(&self) -> u8
         ensures { result ≡ layer_of self.now }
     {
@@ -119,6 +122,7 @@ impl Summary {
     }
 }
 
+/// Writes `fault`, the layer, the record, the number of the refusal and the place, with a dash where there is none.
 impl fmt::Display for LoadFault {
     ghost output = { λ f. Some (fault_text f) };
 
@@ -127,6 +131,7 @@ impl fmt::Display for LoadFault {
     }
 }
 
+/// Writes `ok`, the count of streams, the count of hops and the largest load.
 impl fmt::Display for Summary {
     ghost output = { λ s. Some (summary_text s) };
 
@@ -135,7 +140,7 @@ impl fmt::Display for Summary {
     }
 }
 
-/// Writes the line that tells a verdict at the front of a buffer, and tells the count of its bytes; what stands in the buffer behind the line is
+/// Writes the line that tells a verdict at the front of a buffer, and answers the count of its bytes; what stands in the buffer behind the line is
 /// not touched.
 ///
 /// Refuses a buffer that is too short by `BufferTooShort`, and then writes nothing. A buffer of `LONGEST_LINE` bytes is never too short.

@@ -92,8 +92,9 @@ fn open<L: Layout>(
 /// Loads a plan: judges its head, and opens the streams of its records one after another as `Grid::open` does. Answers the count of records. The
 /// streams of the records ahead of a fault stay open; nothing else of the grid has changed then.
 ///
-/// The head is refused as `judge_head` does; its rule, width and height are not compared with the grid's layout. Then comes the first fault of a
-/// record: a number that cannot be read, or what the grid declines. Bytes behind the last record are refused by `TrailingBytes`.
+/// Fails, in this order, by `HeadBytes` where a number of the head cannot be read, and by `Plan` with what `judge_head` refuses of the head, whose
+/// rule, width and height are not compared with the grid's layout; then, record by record, by `RecordBytes` where a number of it cannot be read,
+/// and by `Grid` with what `Grid::open` refuses; and last by `Plan` with `TrailingBytes` where bytes stand behind the last record.
 ///
 /// A plan that has loaded on a grid without streams, its streams in rising number, is what `write` writes of the grid then. One that has loaded has at
 /// most 3530 bytes.

@@ -35,11 +35,11 @@ fn plan_of<L: Layout>(grid: &Grid<L>, head: &Head, count: u16) -> PlanBytes
     plan
 }
 
-/// Writes the plan of the open streams, in rising number, under a head at the front of a buffer, and tells the count of its bytes; what stands in the
+/// Writes the plan of the open streams, in rising number, under a head at the front of a buffer, and answers the count of its bytes; what stands in the
 /// buffer behind the plan is not touched. What was written loads on every blank grid of the same layout and sizes as the same streams.
 ///
-/// Refuses the head as `judge_head` does, with the count of open streams; its rule, width and height are not compared with the grid's layout. Then
-/// refuses a buffer that is too short by `BufferTooShort`. A refusal writes nothing.
+/// Refuses what `judge_head` refuses of the head with the count of open streams; its rule, width and height are not compared with the grid's layout.
+/// Then refuses a buffer that is too short by `BufferTooShort`. A refusal writes nothing, and tells no place.
 pub fn write<L: Layout>(grid: &Grid<L>, head: &Head, buffer: &mut [u8]) -> Result<usize, Refusal>
     ensures made { Puts (written head.now grid.now.tables (length buffer.old)) buffer.old result buffer.new }
     ensures short { IfOk result (λ count. count ≤ 3530) }

@@ -73,6 +73,7 @@ impl Failure {
     }
 }
 
+/// A call that was declined.
 impl From<Declined> for Failure {
     ghost from_gives = { λ declined result. result ≡ failure.Declined declined };
 
@@ -81,6 +82,7 @@ impl From<Declined> for Failure {
     }
 }
 
+/// A call that was declined, by a refusal that tells no hop.
 impl From<Refusal> for Failure {
     ghost from_gives = { λ refusal result. result ≡ failure.Declined (no_hop refusal) };
 
@@ -89,6 +91,7 @@ impl From<Refusal> for Failure {
     }
 }
 
+/// A load that met a fault.
 impl From<LoadFault> for Failure {
     ghost from_gives = { λ fault result. result ≡ failure.NotLoaded fault };
 

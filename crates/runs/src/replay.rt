@@ -13,10 +13,12 @@ use model::law::law_of_every_run;
 use search::measure::Measure;
 use std::alloc::Global;
 
-/// A run: the grid at its end, and the answer to each call.
+/// What a replay comes to.
 #[derive(Drop)]
 pub struct Run<L: Layout, T> {
+    /// The grid after the last call.
     pub grid: Grid<L>,
+    /// The answer to each call, in their order.
     pub answers: Vec<Answer<T>>,
 }
 
@@ -27,7 +29,8 @@ pub struct Run<L: Layout, T> {
 /// The contract is what this project is for: whatever the calls, everything let in comes out, in order, a step is possible
 /// exactly while something is on the grid, and the count of steps is known ahead.
 ///
-/// Refuses what `Grid::blank` refuses, or tells that there is no memory; the slots are then as before.
+/// Refuses what `Grid::blank` refuses, by `GridSize` and `ZeroAmount`, and else fails by `OutOfMemory` where there is no memory for the
+/// grid or the answers; the slots are then as before.
 pub fn replay<L: Layout + Drop, T: Copy, M: Measure>(
     heap: Global,
     layout: L,

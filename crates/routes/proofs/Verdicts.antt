@@ -1,5 +1,5 @@
 -- The judgement of a route, step by step: the fields, the count of hops, then the checks hop by hop.
-use Rattle.std.proofs.Common.{◌≡◌, ℕ, ◌+◌, ◌<◌, ◌≤◌, Bool, true, false, List, map, length, get_or, drop, Some, None, Option, Result, sym, ap, ◌∙◌, arith, MatchResult}
+use Rattle.std.proofs.Common.{◌≡◌, ℕ, ◌+◌, ◌<◌, ◌≤◌, Bool, true, false, List, map, length, get_or, drop, Some, None, Ok, Err, Option, Result, refl, sym, ap, ◌∙◌, arith, MatchResult}
 use Rattle.std.proofs.lemmas.List.{at_drop_more, at_drop_all}
 use Rattle.std.proofs.lemmas.Option.{none-some}
 use Rattle.std.specs.Option.{option_or}
@@ -14,6 +14,15 @@ use Rattle.routes.specs.Checks.{Terms, no_hop, unless, at_hop, field_checks, fai
 use Rattle.routes.specs.Acceptable.{Acceptable, Judges}
 use Rattle.routes.proofs.Firsts.{first_append}
 use Rattle.routes.proofs.Judging.{acceptable, accepted}
+
+-- an answer leads back to the check behind it
+pub declined_by : (o : Option Declined) (d : Declined) → Err d ≡ verdict o → o ≡ Some d
+declined_by None d e = cc
+declined_by (Some c) d e = cc
+
+pub passed_by : (o : Option Declined) → Ok tt ≡ verdict o → o ≡ None
+passed_by None e = refl
+passed_by (Some c) e = cc
 
 module _ (t : Terms) (q : Request) (hops : List Hop) where
   -- what some of the checks hop by hop tell

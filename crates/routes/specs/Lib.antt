@@ -2,5 +2,4 @@ pub mod Firsts
 pub mod Routes
 pub mod Loads
 pub mod Checks
-pub mod Verdicts
 pub mod Acceptable

@@ -4,10 +4,9 @@ use Rattle.std.proofs.lemmas.Result.{err_from_is_err_and}
 use borrow.Author.Tests.{tests}
 use Rattle.routes.specs.declared.check.Check.TheVariants.{OnGrid}
 use Rattle.routes.specs.Checks.{terms_of, fails}
-use Rattle.routes.specs.Verdicts.{declined_by, passed_by}
 use Rattle.routes.specs.Firsts.{first_below}
 use Rattle.routes.proofs.Firsts.{first_below_found}
-use Rattle.routes.proofs.Verdicts.{told_by, fields_declined, count_declined, hop_by_hop, next_check, none_left, judges}
+use Rattle.routes.proofs.Verdicts.{declined_by, passed_by, told_by, fields_declined, count_declined, hop_by_hop, next_check, none_left, judges}
 use Rattle.routes.proofs.judge.judge.Given as given
 use Rattle.routes.proofs.judge.judge.Goals as goal
 use Rattle.routes.proofs.judge.judge.Goals.{After-find}

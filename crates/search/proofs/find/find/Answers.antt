@@ -5,7 +5,7 @@ use Rattle.refusals.specs.declared.refusal.Refusal.{Refusal}
 use Rattle.refusals.specs.declared.refusal.Refusal.TheVariants.{TooFewSlots}
 use Rattle.routes.specs.Routes.{lanes_allowed}
 use Rattle.routes.specs.Checks.{terms_of}
-use Rattle.routes.specs.Verdicts.{passed_by}
+use Rattle.routes.proofs.Verdicts.{passed_by}
 use Rattle.search.specs.Walks.{problem, FindsWalk}
 use Rattle.search.specs.Finds.{search_refusal}
 use Rattle.search.proofs.Accepting.{finds}

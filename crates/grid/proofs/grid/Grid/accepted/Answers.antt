@@ -1,4 +1,4 @@
-use Rattle.routes.specs.Verdicts.{passed_by}
+use Rattle.routes.proofs.Verdicts.{passed_by}
 use Rattle.grid.proofs.Editing.{acceptable_holds}
 use Rattle.grid.proofs.grid.Grid.accepted.Goals as goal
 

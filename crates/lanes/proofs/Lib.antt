@@ -6,3 +6,5 @@ pub mod LaneTables
 pub mod Handled
 pub mod LaneSums
 pub mod Items
+pub mod Blanks
+pub mod Outlines

@@ -2,5 +2,3 @@ pub mod Sizes
 pub mod Rings
 pub mod Queues
 pub mod Calls
-pub mod Blanks
-pub mod Outlines

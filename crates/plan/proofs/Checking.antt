@@ -3,7 +3,7 @@ use Rattle.std.proofs.Common.{◌≡◌, ℕ, List, Some, None, Ok, Err, Result,
 use Rattle.std.proofs.Math.Path.{fun_ext}
 use Rattle.layouts.specs.Layout.{Meaning}
 use Rattle.model.specs.Grid.{blank}
-use Rattle.lanes.specs.Blanks.{blank_queues}
+use Rattle.lanes.proofs.Blanks.{blank_queues}
 use Rattle.codec.specs.declared.head.HeadNumbers.{HeadNumbers}
 use Rattle.codec.specs.Heads.{values_of}
 use Rattle.grid.specs.declared.tables.Tables.{Tables}

@@ -14,7 +14,7 @@ use Rattle.model.specs.Outlines.{without_items}
 use Rattle.model.specs.Law.{Keeps}
 use Rattle.search.specs.Scales.{Scale}
 use Rattle.search.specs.Seeks.{SeekFinds, SeekBy}
-use Rattle.lanes.specs.Blanks.{blank_queues}
+use Rattle.lanes.proofs.Blanks.{blank_queues}
 use Rattle.grid.specs.declared.tables.Tables.{Tables}
 use Rattle.grid.specs.Views.{streams_in, with_streams, view, slots_alike, outline, setting}
 use Rattle.grid.specs.Makes.{Same, Makes}

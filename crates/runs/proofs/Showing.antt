@@ -8,7 +8,7 @@ use Rattle.model.specs.Calls.{Call, sends, steps, Answer, done, moved, out, send
 use Rattle.model.specs.Runs.{is_declined}
 use Rattle.model.specs.Slots.{stored, arrival, slots_after}
 use Rattle.lanes.specs.Sizes.{slot_count}
-use Rattle.lanes.specs.Outlines.{outline_view}
+use Rattle.lanes.proofs.Outlines.{outline_view}
 use Rattle.grid.specs.declared.tables.Tables.{Tables}
 use Rattle.grid.specs.Views.{setting, view}
 use Rattle.grid.specs.declared.step.Step.{Step}

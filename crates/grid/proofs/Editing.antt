@@ -15,7 +15,7 @@ use Rattle.routes.specs.Acceptable.{Acceptable}
 use Rattle.model.specs.Grid.{Setting, Grid, assign, with_stream}
 use Rattle.model.specs.Calls.{Call, declined, done, refuse, vacancy, open_refusal, opening, open_stream, close_refusal, closing, outcome}
 use Rattle.model.specs.Sums.{one_of, item_count_of}
-use Rattle.model.specs.Outlines.{grid_sum_same_lanes}
+use Rattle.model.proofs.Outlines.{grid_sum_same_lanes}
 use Rattle.model.specs.Slots.{arrival}
 use Rattle.lanes.specs.declared.size.Size.{Size}
 use Rattle.lanes.specs.Sizes.{holds, setting_of}

@@ -2,6 +2,7 @@ pub mod Puts
 pub mod Routes
 pub mod LaneSums
 pub mod GridSums
+pub mod Outlines
 pub mod StreamItems
 pub mod Kept
 pub mod Does

@@ -9,7 +9,8 @@ use Rattle.routes.specs.Routes.{OpenStream}
 use Rattle.model.specs.Grid.{Grid, with_stream}
 use Rattle.model.specs.Sums.{grid_sum}
 use Rattle.model.specs.Calls.{Call, opens, closes, Answer, declined, done, Outcome, unless_declined, open_refusal, close_refusal, outcome}
-use Rattle.model.specs.Outlines.{without_items, close_refusal-without_items}
+use Rattle.model.specs.Outlines.{without_items}
+use Rattle.model.proofs.Outlines.{close_refusal-without_items}
 use Rattle.model.specs.Runs.{is_declined}
 use Rattle.model.specs.Slots.{arrival}
 use Rattle.lanes.specs.Queues.{queues_of, outline as lanes_outline}

@@ -1,6 +1,6 @@
 use Rattle.std.proofs.Common.{refl, sym, ◌∙◌}
 use Rattle.model.specs.Sums.{one}
-use Rattle.model.specs.Outlines.{grid_sum_same_lanes}
+use Rattle.model.proofs.Outlines.{grid_sum_same_lanes}
 use Rattle.lanes.specs.Sizes.{setting_of}
 use Rattle.grid.specs.Views.{outline, setting}
 use Rattle.grid.proofs.grid.Grid.items.Goals as goal

@@ -4,7 +4,7 @@ use Rattle.std.proofs.lemmas.Bool.{cond_both}
 use Rattle.layouts.specs.Layout.{Meaning}
 use Rattle.routes.specs.declared.declined.Declined.{Declined}
 use Rattle.routes.specs.declared.hop.Hop.{Hop}
-use Rattle.routes.specs.Routes.{OpenStream, hop_on, streams_of}
+use Rattle.routes.specs.Routes.{OpenStream, streams_of}
 use Rattle.model.specs.Grid.{Setting, Queue, Grid, has_room}
 use Rattle.model.specs.Calls.{Call, Answer, declined, Outcome, refuse, unless_declined, forward, outcome}
 use Rattle.model.specs.Slots.{arrival}

@@ -1,5 +1,6 @@
 -- Hops, routes and streams.
-use Rattle.std.specs.Prelude.{ℕ, Bool, false, ◌&&◌, ◌||◌, List, [], ◌∷◌, length, take, None, Option, ◌==◌, nat_le, nat_lt, slice_index_or}
+use Rattle.std.specs.Prelude.{ℕ, Bool, ◌&&◌, List, length, take, None, Option, ◌==◌, nat_le, nat_lt, slice_index_or}
+use Rattle.std.specs.List.{list_any}
 use Rattle.std.specs.Option.{option_map}
 use Rattle.routes.specs.declared.hop.Hop.{Hop}
 use Rattle.routes.specs.declared.route.Route.{Route}
@@ -36,8 +37,7 @@ is_on_grid links lanes h = nat_lt h.link links && nat_lt h.lane lanes
 
 -- a link stands in a list of hops
 abbrev pub uses : ℕ → List Hop → Bool
-uses link [] = false
-uses link (h ∷ hops) = h.link == link || uses link hops
+uses link hops = list_any (λ h. h.link == link) hops
 
 -- an open stream: what it asked for, and the hops of its route
 pub record OpenStream : Type 0 where

@@ -10,8 +10,12 @@ use std::io::{BufRead, Write};
 
 // Prints the words behind the name of the command, as they stand in the line.
 fn say(rt: &HostRuntime, line: &[u8]) -> io::Result<()> {
-    let line = line.trim_ascii();
-    let text = line.strip_prefix(b"say").unwrap_or(line).trim_ascii();
+    let end = line
+        .iter()
+        .position(|byte| *byte == b'#')
+        .unwrap_or(line.len());
+    let words = line[..end].trim_ascii();
+    let text = words.strip_prefix(b"say").unwrap_or(words).trim_ascii();
     rt.stdout().write_all(text)?;
     println!(rt; "")
 }

@@ -1,5 +1,5 @@
 // Lines of a script and what they read as.
-use crate::command::{Command, MeasureName};
+use crate::command::{BeatName, Command, MeasureName};
 use crate::mistake::Mistake;
 use crate::parse::parse;
 use lanes::strip::Strip;
@@ -136,6 +136,26 @@ fn plan_commands(rt: HostRuntime) -> Result<(), Fail> {
 }
 
 #[test]
+fn job_commands(rt: HostRuntime) -> Result<(), Fail> {
+    let heap = rt.alloc();
+    let lines: [(&[u8], Command); 9] = [
+        (b"check 0102 03", Command::Check(vec![in heap; 1, 2, 3]?)),
+        (b"check", Command::Check(Vec::new(heap))),
+        (b"rehearse 65535", Command::Rehearse(65535, BeatName::Even)),
+        (b"rehearse 3 even", Command::Rehearse(3, BeatName::Even)),
+        (b"rehearse 3 uneven", Command::Rehearse(3, BeatName::Uneven)),
+        (b"report", Command::Report),
+        (b"streams # all", Command::Streams),
+        (b"picture", Command::Picture),
+        (b"say any words, 12 of them", Command::Say),
+    ];
+    for (line, command) in lines {
+        assert_eq!(rt; parse(heap, line), Ok(Some(command)));
+    }
+    Ok(())
+}
+
+#[test]
 fn mistakes(rt: HostRuntime) {
     let lines: [(&[u8], Mistake); 18] = [
         (b"walk", Mistake::UnknownCommand),
@@ -203,7 +223,7 @@ fn grid_mistakes(rt: HostRuntime) {
 
 #[test]
 fn plan_mistakes(rt: HostRuntime) {
-    let lines: [(&[u8], Mistake); 18] = [
+    let lines: [(&[u8], Mistake); 29] = [
         (b"load 0", Mistake::NotBytes),
         (b"load 010", Mistake::NotBytes),
         (b"load 01 0 2", Mistake::NotBytes),
@@ -222,6 +242,17 @@ fn plan_mistakes(rt: HostRuntime) {
         (b"Load 01", Mistake::UnknownCommand),
         (b"write 01", Mistake::ExtraWord),
         (b"writes", Mistake::UnknownCommand),
+        (b"check 01 0", Mistake::NotBytes),
+        (b"rehearse", Mistake::MissingWord),
+        (b"rehearse all", Mistake::NotANumber),
+        (b"rehearse 65536 slow", Mistake::NumberTooLarge),
+        (b"rehearse 3 slow 4", Mistake::UnknownBeat),
+        (b"rehearse 3 even 4", Mistake::ExtraWord),
+        (b"rehearse 3 4", Mistake::UnknownBeat),
+        (b"report 1", Mistake::ExtraWord),
+        (b"streams 1", Mistake::ExtraWord),
+        (b"picture 1", Mistake::ExtraWord),
+        (b"says", Mistake::UnknownCommand),
     ];
     for (line, mistake) in lines {
         assert_eq!(rt; parse(rt.alloc(), line), Err(mistake));

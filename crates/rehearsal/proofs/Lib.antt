@@ -1,0 +1,6 @@
+pub mod Counting
+pub mod Starting
+pub mod Tallies
+pub mod Acting
+pub mod Going
+pub mod Rehearsing

@@ -1,5 +1,6 @@
 -- What a rehearsal comes to.
-use Rattle.std.specs.Prelude.{◌≡◌, ℕ, ◌+◌, ◌*◌, ◌<◌, ◌≤◌, Bool, cond, ◌⊎◌, List, [], ◌∷◌, length, Some, None, Ok, Err, Option, Result, ◌==◌, slice_index_or}
+use Rattle.std.specs.Prelude.{◌≡◌, ℕ, ◌+◌, ◌*◌, ◌<◌, ◌≤◌, Bool, cond, ◌&&◌, ◌⊎◌, List, [], ◌∷◌, length, Some, None, Ok, Err, Option, Result, ◌==◌, slice_index_or}
+use Rattle.std.specs.Option.{option_map}
 use Rattle.refusals.specs.declared.refusal.Refusal.{Refusal}
 use Rattle.refusals.specs.declared.refusal.Refusal.TheVariants.{TooFewSlots, ItemsOnGrid}
 use Rattle.layouts.specs.Layout.{Meaning}
@@ -12,13 +13,15 @@ use Rattle.model.specs.Law.{Goes, NoLaneWillStep}
 use Rattle.model.specs.Sums.{item_count}
 use Rattle.lanes.specs.declared.strip.Strip.{Strip}
 use Rattle.grid.specs.declared.tables.Tables.{Tables}
+use Rattle.grid.specs.declared.step.Step.{Step}
+use Rattle.grid.specs.declared.step.Step.TheVariants.{Moved, Out}
 use Rattle.grid.specs.Makes.{Same}
 use Rattle.grid.specs.Views.{streams_in, setting, view, outline}
 use Rattle.plan.specs.Plans.{open_streams}
 use Rattle.plan.specs.Summaries.{hop_count}
 use Rattle.rehearsal.specs.declared.tally.Tally.{Tally}
 use Rattle.rehearsal.specs.declared.rehearse.Rehearsal.{Rehearsal}
-use Rattle.rehearsal.specs.Strips.{are_rows, counted}
+use Rattle.rehearsal.specs.Strips.{is_strip, are_rows, counted}
 use Rattle.rehearsal.specs.Acts.{Acts, sent_by, handed_out, out_by, steps_gone, gone, Made}
 
 -- A tally tells what the acts come to for stream n.
@@ -42,6 +45,17 @@ pub record Counts (streams : ℕ → Option OpenStream) (acts : Acts) (r : Rehea
   pub items : r.items ≡ counted (length (handed_out acts))
   pub tallies : (n : ℕ) → n < stream_count → TellsOf acts n (streams n) (tally_at r n)
 
+-- the tally of a stream of this number once this strip came out too
+abbrev pub taken : ℕ → Strip → Tally → Tally
+taken n x tally = record { sent = tally.sent; out = counted (tally.out + 1); in_order = tally.in_order && is_strip n tally.out x }
+
+-- What became of a strip by a step that went is counted. A strip's row has 16 bits.
+abbrev pub CountsStrip : Rehearsal → Step Strip → Rehearsal → Type 0
+CountsStrip r (Moved n) r' = (r'.tallies ≡ r.tallies) × (r'.items ≡ r.items)
+CountsStrip r (Out n x) r' =
+    (x.row < 65536) × (r'.items ≡ counted (r.items + 1))
+    × ((k : ℕ) → k < stream_count → tally_at r' k ≡ cond (n == k) (option_map (taken n x) (tally_at r k)) (tally_at r k))
+
 -- a stream sends no strip: it has sent all of them, or the next one would not be let in
 abbrev pub SendsNone : Meaning → Tables → List Strip → ℕ → Rehearsal → ℕ → Type 0
 SendsNone m t xs strips r n =
@@ -59,11 +73,12 @@ pub record Stands (m : Meaning) (strips : ℕ) (t : Tables) (xs : List Strip) (a
   pub few : (n : ℕ) → sent_by n acts ≤ strips
   pub counts : Counts (streams_in t) acts r
 
--- a rehearsal goes on: wherever it began, it stands after more acts, of which some went if it says so
-abbrev pub GoesOn : Meaning → ℕ → Rehearsal → Tables → List Strip → Bool → Rehearsal → Tables → List Strip → Type 0
-GoesOn m strips r t xs went r' t' xs' =
-    (first : Tables) (slots : List Strip) (acts : Acts) → Stands m strips first slots acts r t xs
-    → (more : Acts) × Stands m strips first slots more r' t' xs' × (gone acts + cond went 1 0 ≤ gone more)
+-- A rehearsal goes on: wherever it began, it stands after more acts, of which some went if it says so; what was known ahead stays.
+pub record GoesOn (m : Meaning) (strips : ℕ) (r : Rehearsal) (t : Tables) (xs : List Strip) (went : Bool) (r' : Rehearsal) (t' : Tables) (xs' : List Strip) : Type 0 where
+  pub stands :
+      (first : Tables) (slots : List Strip) (acts : Acts) → Stands m strips first slots acts r t xs
+      → (more : Acts) × Stands m strips first slots more r' t' xs' × (gone acts + cond went 1 0 ≤ gone more)
+  pub ahead : r'.ahead ≡ r.ahead
 
 -- all is as it was
 pub record Idle (r : Rehearsal) (t : Tables) (xs : List Strip) (r' : Rehearsal) (t' : Tables) (xs' : List Strip) : Type 0 where

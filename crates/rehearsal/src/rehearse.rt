@@ -1,9 +1,13 @@
 // Rehearsing the open streams of a grid.
-ghost use Rattle.std.specs.Prelude.{◌≡◌, ℕ, ◌<◌, false, length};
+ghost use Rattle.std.specs.Prelude.{◌≡◌, ℕ, ◌+◌, ◌<◌, false, length, cond, ◌==◌, slice_index_or};
+ghost use Rattle.std.specs.Option.{option_map};
+ghost use Rattle.routes.specs.Routes.{streams_of};
 ghost use Rattle.routes.specs.Loads.{stream_count};
 ghost use Rattle.model.specs.Law.{WillStep, NoLaneWillStep};
 ghost use Rattle.grid.specs.Views.{setting, view};
-ghost use Rattle.rehearsal.specs.Rehearsals.{SendsNone, GoesOn, Idle, MayRehearse};
+ghost use Rattle.rehearsal.specs.Strips.{counted};
+ghost use Rattle.rehearsal.specs.Acts.{start};
+ghost use Rattle.rehearsal.specs.Rehearsals.{tally_at, taken, TellsOf, CountsStrip, SendsNone, GoesOn, Idle, Rests, MayRehearse};
 
 use crate::beat::Beat;
 use crate::tally::{Tally, strip_of};
@@ -30,7 +34,9 @@ pub struct Rehearsal {
 }
 
 // An empty tally for each open stream.
-fn tallies(streams: &[Option<Stream>; 64]) -> [Option<Tally>; 64] {
+fn tallies(streams: &[Option<Stream>; 64]) -> [Option<Tally>; 64]
+    ensures { (n : ℕ) → n < stream_count → TellsOf start n (streams_of streams.now n) (slice_index_or result n None) }
+{
     let mut tallies = [None; 64];
     for stream in 0..64 {
         if streams[stream].is_some() {
@@ -61,12 +67,9 @@ impl Rehearsal {
             return false;
         }
         let row = tally.sent;
-        if grid
-            .send(slots, u16::from(stream), strip_of(stream, row))
-            .is_err()
-        {
+        let Ok(()) = grid.send(slots, u16::from(stream), strip_of(stream, row)) else {
             return false;
-        }
+        };
         self.tallies[number] = Some(Tally {
             sent: row + 1,
             ..tally
@@ -98,12 +101,31 @@ impl Rehearsal {
     }
 
     // A strip of a stream came out.
-    fn take(&mut self, stream: u16, strip: Strip) {
+    fn take(&mut self, stream: u16, strip: Strip)
+        ensures row { strip.row < 65536 }
+        ensures steps { self.new.steps ≡ self.old.steps }
+        ensures items { self.new.items ≡ counted (self.old.items + 1) }
+        ensures ahead { self.new.ahead ≡ self.old.ahead }
+        ensures tallies { (n : ℕ) → n < stream_count → tally_at self.new n ≡ cond (stream == n) (option_map (taken stream strip) (tally_at self.old n)) (tally_at self.old n) }
+    {
         self.items = self.items.saturating_add(1);
         if stream < 64 {
             if let Some(tally) = self.tallies[usize::from(stream)] {
                 self.tallies[usize::from(stream)] = Some(tally.after(stream, strip));
             }
+        }
+    }
+
+    // A step went, and this became of the strip.
+    fn count(&mut self, step: Step<Strip>)
+        ensures steps { self.new.steps ≡ counted (self.old.steps + 1) }
+        ensures ahead { self.new.ahead ≡ self.old.ahead }
+        ensures strip { CountsStrip self.old step self.new }
+    {
+        self.steps = self.steps.saturating_add(1);
+        match step {
+            Step::Moved(_) => {}
+            Step::Out(stream, strip) => self.take(stream, strip),
         }
     }
 
@@ -119,12 +141,8 @@ impl Rehearsal {
         ensures idle { result ≡ false → Idle self.old grid.old.tables slots.old self.new grid.new.tables slots.new }
         ensures declined { result ≡ false → WillStep (setting (L.meaning grid.old.layout) grid.old.tables (length slots.old)) (view grid.old.tables slots.old) hop.link hop.lane → ⊥ }
     {
-        match grid.step(slots, hop) {
-            Ok(Step::Moved(_)) => {}
-            Ok(Step::Out(stream, strip)) => self.take(stream, strip),
-            Err(_) => return false,
-        }
-        self.steps = self.steps.saturating_add(1);
+        let Ok(step) = grid.step(slots, hop) else { return false };
+        self.count(step);
         true
     }
 
@@ -142,6 +160,24 @@ impl Rehearsal {
                 went |= self.step(grid, slots, Hop { link, lane });
             }
         }
+        went
+    }
+
+    // A turn: all streams send, and each lane is stepped once. Whether anything went.
+    fn turn<L: Layout>(
+        &mut self,
+        grid: &mut Grid<L>,
+        slots: &mut [Strip],
+        strips: u16,
+        beat: Beat,
+        turn: u64,
+    ) -> bool
+        ensures layout { grid.new.layout ≡ grid.old.layout }
+        ensures on { GoesOn (L.meaning grid.old.layout) strips self.old grid.old.tables slots.old result self.new grid.new.tables slots.new }
+        ensures rests { result ≡ false → Rests (L.meaning grid.old.layout) grid.new.tables slots.new strips self.new }
+    {
+        let mut went = self.send_all(grid, slots, strips, beat, turn);
+        went |= self.sweep(grid, slots);
         went
     }
 }
@@ -173,9 +209,7 @@ pub fn rehearse<L: Layout>(
     };
     // each turn but the last lets a strip in or takes one a hop on
     for turn in 0..u64::MAX {
-        let sent = rehearsal.send_all(grid, slots, strips, beat, turn);
-        let stepped = rehearsal.sweep(grid, slots);
-        if !sent && !stepped {
+        if !rehearsal.turn(grid, slots, strips, beat, turn) {
             break;
         }
     }

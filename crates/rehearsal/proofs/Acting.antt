@@ -1,5 +1,5 @@
 -- One act more.
-use Rattle.std.proofs.Common.{◌≡◌, ℕ, ◌+◌, ◌<◌, ◌≤◌, Bool, true, false, cond, not, ◌&&◌, List, [], ◌∷◌, ◌++◌, length, Some, None, Option, ◌==◌, get_or, set, get_or-set_same, get_or-set_other, sym, refl, ap, subst, ◌∙◌, add-zero, append-nil, ⊎_elim, arith}
+use Rattle.std.proofs.Common.{◌≡◌, ℕ, ◌+◌, ◌<◌, ◌≤◌, Bool, true, false, cond, List, [], ◌++◌, length, Some, None, Option, ◌==◌, get_or, set, get_or-set_same, get_or-set_other, sym, refl, ap, ◌∙◌, add-zero, append-nil, ⊎_elim, arith}
 use Rattle.std.proofs.lemmas.Bool.{cases_Bool, cases_lt, cond_both, eqb-true, eqb-false}
 use Rattle.std.proofs.lemmas.List.{get_or_past}
 use Rattle.std.specs.Option.{option_map}
@@ -19,8 +19,8 @@ use Rattle.grid.specs.Makes.{step_answer, Makes}
 use Rattle.rehearsal.specs.declared.tally.Tally.{Tally}
 use Rattle.rehearsal.specs.declared.rehearse.Rehearsal.{Rehearsal}
 use Rattle.rehearsal.specs.Strips.{strip_of, counted}
-use Rattle.rehearsal.specs.Acts.{Acts, sent, stepped, sent_by, handed_out, out_by, steps_gone, gone}
-use Rattle.rehearsal.specs.Rehearsals.{TellsOf, tally_at, taken, Counts, CountsStrip, Stands, GoesOn}
+use Rattle.rehearsal.specs.Acts.{Acts, sent, stepped, sent_by, handed_out, steps_gone}
+use Rattle.rehearsal.specs.Rehearsals.{tally_at, CountsStrip, Stands, GoesOn}
 use Rattle.rehearsal.proofs.Counting.{counted_more, counted_out}
 use Rattle.rehearsal.proofs.Tallies.{let_in, tells_same, tells_tally, tells_out, tells_in}
 
@@ -47,18 +47,19 @@ module _ (m : Meaning) (strips : ℕ) (t t' : Tables) (xs xs' : List Strip) (r :
   pub send_declined : (d : Declined) → Makes m t xs (sends n (strip_of n tally.sent)) (declined d) t' xs' → GoesOn m strips r t xs false r t' xs'
   send_declined d made =
       record {
-        stands = λ first slots acts stands.
-          (sent acts n (declined d),
-           record {
-             made = (t, xs, stands.made, rw (sent_so_far first slots acts stands) at made);
-             few = λ k. omega (arith, stands.few k);
-             counts = record {
-               steps = stands.counts.steps;
-               items = stands.counts.items;
-               tallies = λ k lt. tells_same acts (sent acts n (declined d)) k (streams_in first k) (tally_at r k) (add-zero (sent_by k acts)) refl (stands.counts.tallies k lt);
-             };
-           },
-           omega arith);
+        stands = λ first slots acts stands. (
+          sent acts n (declined d),
+          record {
+            made = (t, xs, stands.made, rw (sent_so_far first slots acts stands) at made);
+            few = λ k. omega (arith, stands.few k);
+            counts = record {
+              steps = stands.counts.steps;
+              items = stands.counts.items;
+              tallies = λ k lt. tells_same acts (sent acts n (declined d)) k (streams_in first k) (tally_at r k) (add-zero (sent_by k acts)) refl (stands.counts.tallies k lt);
+            };
+          },
+          omega arith,
+        );
         ahead = refl;
       }
 
@@ -67,18 +68,19 @@ module _ (m : Meaning) (strips : ℕ) (t t' : Tables) (xs xs' : List Strip) (r :
       → GoesOn m strips r t xs true (record r { tallies = set r.tallies n (Some (let_in tally)) }) t' xs'
   send_done left made =
       record {
-        stands = λ first slots acts stands.
-          (sent acts n done,
-           record {
-             made = (t, xs, stands.made, rw (sent_so_far first slots acts stands) at made);
-             few = λ k. few_yet acts (sent_so_far first slots acts stands) stands.few k;
-             counts = record {
-               steps = stands.counts.steps;
-               items = stands.counts.items;
-               tallies = λ k lt. rw (changed_at r.tallies n tally let_in entry k) (tells_in acts n k (streams_in first k) (tally_at r k) (stands.counts.tallies k lt));
-             };
-           },
-           omega arith);
+        stands = λ first slots acts stands. (
+          sent acts n done,
+          record {
+            made = (t, xs, stands.made, rw (sent_so_far first slots acts stands) at made);
+            few = λ k. few_yet acts (sent_so_far first slots acts stands) stands.few k;
+            counts = record {
+              steps = stands.counts.steps;
+              items = stands.counts.items;
+              tallies = λ k lt. rw (changed_at r.tallies n tally let_in entry k) (tells_in acts n k (streams_in first k) (tally_at r k) (stands.counts.tallies k lt));
+            };
+          },
+          omega arith,
+        );
         ahead = refl;
       }
     where
@@ -99,20 +101,21 @@ module _ (m : Meaning) (strips : ℕ) (t t' : Tables) (xs xs' : List Strip) (r r
   step_inside a went none goes counts_step tallies items ahead made =
       record {
         stands = λ first slots acts stands.
-          (let out_as_before : handed_out acts ++ leaving a ≡ handed_out acts = ap (λ q. handed_out acts ++ q) none ∙ append-nil (handed_out acts) in
-          (stepped acts h a,
-           record {
-             made = (t, xs, stands.made, made);
-             few = stands.few;
-             counts = record {
-               steps = counts_step acts stands.counts.steps ∙ ap (λ k. counted (steps_gone acts + k)) (sym goes);
-               items = items ∙ stands.counts.items ∙ ap (λ q. counted (length q)) (sym out_as_before);
-               tallies = λ k lt.
-                 (tells_same acts (stepped acts h a) k (streams_in first k) (tally_at r' k) refl (ap (of_stream k) out_as_before)
-                 (rw tallies (stands.counts.tallies k lt)));
-             };
-           },
-           omega (arith, goes)));
+            (let out_as_before : handed_out acts ++ leaving a ≡ handed_out acts = ap (λ q. handed_out acts ++ q) none ∙ append-nil (handed_out acts) in (
+              stepped acts h a,
+              record {
+                made = (t, xs, stands.made, made);
+                few = stands.few;
+                counts = record {
+                  steps = counts_step acts stands.counts.steps ∙ ap (λ k. counted (steps_gone acts + k)) (sym goes);
+                  items = items ∙ stands.counts.items ∙ ap (λ q. counted (length q)) (sym out_as_before);
+                  tallies = λ k lt.
+                      (tells_same acts (stepped acts h a) k (streams_in first k) (tally_at r' k) refl (ap (of_stream k) out_as_before)
+                      (rw tallies (stands.counts.tallies k lt)));
+                };
+              },
+              omega (arith, goes),
+            ));
         ahead = ahead;
       }
 
@@ -129,17 +132,18 @@ module _ (m : Meaning) (strips : ℕ) (t t' : Tables) (xs xs' : List Strip) (r r
       step_inside (moved n) true refl refl (λ acts was. one_more ∙ ap (λ k. counted (k + 1)) was ∙ counted_more (steps_gone acts) 1) strip.0 strip.1 ahead made
   step_went (Out n x) one_more ahead strip made =
       record {
-        stands = λ first slots acts stands.
-          (stepped acts h (out n x),
-           record {
-             made = (t, xs, stands.made, made);
-             few = stands.few;
-             counts = record {
-               steps = one_more ∙ ap (λ k. counted (k + 1)) stands.counts.steps ∙ counted_more (steps_gone acts) 1;
-               items = strip.1 ∙ ap (λ k. counted (k + 1)) stands.counts.items ∙ counted_out (n, x) (handed_out acts);
-               tallies = λ k lt. rw (strip.2 k lt) (tells_out acts h n x strip.0 k (streams_in first k) (tally_at r k) (stands.counts.tallies k lt));
-             };
-           },
-           omega arith);
+        stands = λ first slots acts stands. (
+          stepped acts h (out n x),
+          record {
+            made = (t, xs, stands.made, made);
+            few = stands.few;
+            counts = record {
+              steps = one_more ∙ ap (λ k. counted (k + 1)) stands.counts.steps ∙ counted_more (steps_gone acts) 1;
+              items = strip.1 ∙ ap (λ k. counted (k + 1)) stands.counts.items ∙ counted_out (n, x) (handed_out acts);
+              tallies = λ k lt. rw (strip.2 k lt) (tells_out acts h n x strip.0 k (streams_in first k) (tally_at r k) (stands.counts.tallies k lt));
+            };
+          },
+          omega arith,
+        );
         ahead = ahead;
       }

@@ -3,4 +3,4 @@ pub mod Starting
 pub mod Tallies
 pub mod Acting
 pub mod Going
-pub mod Rehearsing
+pub mod Sweeping

@@ -39,8 +39,8 @@ module _ (streams : List (Option Stream)) (n : ℕ) (tallies : List (Option Tall
       record {
         all = length-set tallies n (Some empty) ∙ begun.all;
         told = below_more (λ k. TellsOf start k (streams_of streams k) (get_or (set tallies n (Some empty)) k None)) n
-          (λ k below. (rw (get_or-set_other tallies n k (Some empty) None (λ same. omega arith)) (begun.told k below)))
-          (rw (get_or-set_same tallies n (Some empty) None there) (tells_empty n (get_or streams n None) is_open));
+            (λ k below. (rw (get_or-set_other tallies n k (Some empty) None (λ same. omega arith)) (begun.told k below)))
+            (rw (get_or-set_same tallies n (Some empty) None there) (tells_empty n (get_or streams n None) is_open));
         none = λ k above. (rw (get_or-set_other tallies n k (Some empty) None (λ same. omega arith)) (begun.none k (omega arith)));
       }
 
@@ -49,6 +49,6 @@ module _ (streams : List (Option Stream)) (n : ℕ) (tallies : List (Option Tall
       record {
         all = begun.all;
         told = below_more (λ k. TellsOf start k (streams_of streams k) (get_or tallies k None)) n begun.told
-          (let here : get_or tallies n None ≡ None = begun.none n (omega arith) in rw here (tells_none n (get_or streams n None) closed));
+            (let here : get_or tallies n None ≡ None = begun.none n (omega arith) in rw here (tells_none n (get_or streams n None) closed));
         none = λ k above. begun.none k (omega arith);
       }

@@ -1,11 +1,9 @@
 -- What a tally tells after one act more.
-use Rattle.std.proofs.Common.{◌≡◌, ℕ, ◌+◌, ◌<◌, Bool, true, false, cond, ◌&&◌, List, [], ◌∷◌, ◌++◌, length, length-append, Some, None, Option, ◌==◌, sym, refl, ap, subst, ◌∙◌, add-zero, zero-add, append-nil}
+use Rattle.std.proofs.Common.{◌≡◌, ℕ, ◌+◌, ◌<◌, false, cond, ◌&&◌, List, [], ◌∷◌, ◌++◌, length, Some, None, Option, ◌==◌, sym, refl, ap, subst, ◌∙◌, add-zero, zero-add, append-nil}
 use Rattle.std.proofs.lemmas.Bool.{eqb-true, eq-eqb, cond_both}
 use Rattle.std.specs.Option.{option_map}
 use Rattle.routes.specs.Routes.{OpenStream}
 use Rattle.routes.specs.declared.hop.Hop.{Hop}
-use Rattle.model.specs.Grid.{Queue}
-use Rattle.model.specs.Sums.{of_stream}
 use Rattle.model.specs.Calls.{done, out}
 use Rattle.model.proofs.StreamItems.{of_stream-append}
 use Rattle.lanes.specs.declared.strip.Strip.{Strip}
@@ -32,6 +30,15 @@ module _ (acts more : Acts) (n : ℕ) where
       → (s : Option OpenStream) (entry : Option Tally) → TellsOf acts n s entry → TellsOf more n s (option_map f entry)
   tells_changed f each None entry tells = ap (option_map f) tells
   tells_changed f each (Some s) entry tells = (f tells.0, ap (option_map f) tells.1, each tells.0 tells.2)
+
+-- an act of one stream changes that stream's entry, and those of other streams stay
+tells_each : (acts more : Acts) (k : ℕ) (f : Tally → Tally) → ((tally : Tally) → Tells acts k tally → Tells more k (f tally))
+    → ((n : ℕ) → (k == n) ≡ false → (sent_by n more ≡ sent_by n acts) × (out_by n more ≡ out_by n acts))
+    → (n : ℕ) (s : Option OpenStream) (entry : Option Tally) → TellsOf acts n s entry → TellsOf more n s (cond (k == n) (option_map f entry) entry)
+tells_each acts more k f own others n s entry tells =
+    cond_both (k == n) _ _ (TellsOf more n s)
+    (λ here. let P : ℕ → Type 0 = λ i. TellsOf acts i s entry → TellsOf more i s (option_map f entry) in subst P (eqb-true k n here) (tells_changed acts more k f own s entry) tells)
+    (λ other. let same = others n other in tells_same acts more n s entry same.0 same.1 tells)
 
 -- an entry with a tally is that of an open stream, of which it tells
 pub tells_tally : (acts : Acts) (n : ℕ) (s : Option OpenStream) (tally : Tally) → TellsOf acts n s (Some tally) → Tells acts n tally
@@ -69,13 +76,8 @@ module _ (acts : Acts) (h : Hop) (k : ℕ) (x : Strip) where
           in_order = rw (tells.in_order, tells.out) (in_rows outs) ∙ ap (are_rows k 0) (sym out_by_own);
         }
 
-    -- its stream's tally takes it, and those of other streams stay
     pub tells_out : (n : ℕ) (s : Option OpenStream) (entry : Option Tally) → TellsOf acts n s entry → TellsOf more n s (cond (k == n) (option_map (taken k x) entry) entry)
-    tells_out n s entry tells =
-        cond_both (k == n) _ _ (TellsOf more n s)
-        (λ own. let same : k ≡ n = eqb-true k n own in let P : ℕ → Type 0 = λ i. TellsOf acts i s entry → TellsOf more i s (option_map (taken k x) entry) in
-          subst P same (tells_changed acts more k (taken k x) tells_taken s entry) tells)
-        (λ other. tells_same acts more n s entry refl (out_by_other n other) tells)
+    tells_out = tells_each acts more k (taken k x) tells_taken (λ n other. (refl, out_by_other n other))
 
 -- ---- a strip that is let in
 
@@ -92,8 +94,4 @@ module _ (acts : Acts) (k : ℕ) where
       }
 
   pub tells_in : (n : ℕ) (s : Option OpenStream) (entry : Option Tally) → TellsOf acts n s entry → TellsOf more_in n s (cond (k == n) (option_map let_in entry) entry)
-  tells_in n s entry tells =
-      cond_both (k == n) _ _ (TellsOf more_in n s)
-      (λ own. let same : k ≡ n = eqb-true k n own in let P : ℕ → Type 0 = λ i. TellsOf acts i s entry → TellsOf more_in i s (option_map let_in entry) in
-        subst P same (tells_changed acts more_in k let_in tells_let_in s entry) tells)
-      (λ other. tells_same acts more_in n s entry (ap (λ b. sent_by n acts + cond b 1 0) other ∙ add-zero (sent_by n acts)) refl tells)
+  tells_in = tells_each acts more_in k let_in tells_let_in (λ n other. (ap (λ b. sent_by n acts + cond b 1 0) other ∙ add-zero (sent_by n acts), refl))

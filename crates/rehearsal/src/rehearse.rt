@@ -62,7 +62,9 @@ impl Rehearsal {
         ensures declined { result ≡ false → SendsNone (L.meaning grid.old.layout) grid.old.tables slots.old strips self.old stream }
     {
         let number = usize::from(stream);
-        let Some(tally) = self.tallies[number] else { return false };
+        let Some(tally) = self.tallies[number] else {
+            return false;
+        };
         if tally.sent >= strips {
             return false;
         }
@@ -130,18 +132,15 @@ impl Rehearsal {
     }
 
     // Steps a lane. Whether the step went.
-    fn step<L: Layout>(
-        &mut self,
-        grid: &mut Grid<L>,
-        slots: &mut [Strip],
-        hop: Hop,
-    ) -> bool
+    fn step<L: Layout>(&mut self, grid: &mut Grid<L>, slots: &mut [Strip], hop: Hop) -> bool
         ensures layout { grid.new.layout ≡ grid.old.layout }
         ensures on { (strips : ℕ) → GoesOn (L.meaning grid.old.layout) strips self.old grid.old.tables slots.old result self.new grid.new.tables slots.new }
         ensures idle { result ≡ false → Idle self.old grid.old.tables slots.old self.new grid.new.tables slots.new }
         ensures declined { result ≡ false → WillStep (setting (L.meaning grid.old.layout) grid.old.tables (length slots.old)) (view grid.old.tables slots.old) hop.link hop.lane → ⊥ }
     {
-        let Ok(step) = grid.step(slots, hop) else { return false };
+        let Ok(step) = grid.step(slots, hop) else {
+            return false;
+        };
         self.count(step);
         true
     }

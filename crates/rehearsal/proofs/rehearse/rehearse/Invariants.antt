@@ -1,5 +1,6 @@
-use Rattle.std.proofs.Common.{◌≡◌}
-use Rattle.rehearsal.proofs.Rehearsing.{After}
+use Rattle.std.proofs.Common.{◌≡◌, ◌≤◌}
+use Rattle.rehearsal.specs.Acts.{Acts, gone}
+use Rattle.rehearsal.specs.Rehearsals.{Stands}
 use Rattle.rehearsal.proofs.rehearse.rehearse.Given as goal
 
 -- something went in each turn so far
@@ -7,5 +8,5 @@ abbrev pub invariant-loop-turn : goal.invariant-loop-turn
 invariant-loop-turn g l = record {
   layout : l.grid.layout ≡ l.fn.grid.layout;
   ahead : l.rehearsal.ahead ≡ l.initial.rehearsal.ahead;
-  after : After (g.L.Layout.meaning l.fn.grid.layout) l.strips l.fn.grid.tables l.fn.slots l.turn l.rehearsal l.grid.tables l.slots;
+  acts : (acts : Acts) × Stands (g.L.Layout.meaning l.fn.grid.layout) l.strips l.fn.grid.tables l.fn.slots acts l.rehearsal l.grid.tables l.slots × (l.turn ≤ gone acts);
 }

@@ -1,5 +1,4 @@
-use Rattle.std.proofs.Common.{◌≡◌, ◌<◌, sym, arith}
-use Rattle.routes.specs.Loads.{stream_count}
+use Rattle.std.proofs.Common.{arith}
 use Rattle.rehearsal.proofs.Acting.{send_declined, send_done}
 use Rattle.rehearsal.proofs.rehearse.Rehearsal.send.Goals as goal
 

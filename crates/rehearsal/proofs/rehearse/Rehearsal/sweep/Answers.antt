@@ -1,9 +1,6 @@
-use Rattle.std.proofs.Common.{◌≡◌, ◌∙◌, ap, sym, refl, arith}
-use Rattle.rehearsal.proofs.Going.{Swept, swept_none, swept_lane, swept_link, swept_all}
+use Rattle.std.proofs.Common.{◌≡◌, ◌∙◌, ap, sym, arith}
+use Rattle.rehearsal.proofs.Sweeping.{swept_lane, swept_link, swept_all}
 use Rattle.rehearsal.proofs.rehearse.Rehearsal.sweep.Goals as goal
-
-pub loop-link-init : goal.loop-link-init
-loop-link-init g c = record { layout = refl; swept = swept_none _ c.args.self.now c.args.grid.now.tables c.args.slots.now }
 
 pub loop-lane-preserved : goal.loop-lane-preserved
 loop-lane-preserved g c =
@@ -23,12 +20,6 @@ loop-link-preserved g c =
       layout = so_far.layout;
       swept = swept_link _ c.args.self.now c.args.grid.now.tables c.args.slots.now c.loop-link.link c.loop-lane.lane _ _ _ _ (omega (arith, c.args.grid.now.tables.lanes.size.wide.1)) so_far.swept;
     }
-
-pub returns-clause-on : goal.returns-clause-on
-returns-clause-on g c strips = (c.loop-link.invariant.swept.part strips).on
-
-pub returns-clause-idle : goal.returns-clause-idle
-returns-clause-idle g c = (c.loop-link.invariant.swept.part 0).idle
 
 pub returns-clause-declined : goal.returns-clause-declined
 returns-clause-declined g c none =

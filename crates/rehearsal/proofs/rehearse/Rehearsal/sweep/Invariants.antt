@@ -1,5 +1,5 @@
 use Rattle.std.proofs.Common.{◌≡◌}
-use Rattle.rehearsal.proofs.Going.{Swept}
+use Rattle.rehearsal.proofs.Sweeping.{Swept}
 use Rattle.rehearsal.proofs.rehearse.Rehearsal.sweep.Given as goal
 
 -- the links so far are swept

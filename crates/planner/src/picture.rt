@@ -18,18 +18,15 @@ fn print_link(
     (from, to): (u16, u16),
     columns: usize,
 ) -> io::Result<()> {
-    let Some(link) = link_between(shown, from, to) else { return Ok(()) };
+    let Some(link) = link_between(shown, from, to) else {
+        return Ok(())
+    };
     let load = link_load(shown.grid.streams(), link);
     print!(rt; "{arrow}{link:>4}:{load:<columns$}")
 }
 
 // Prints the tiles from one to another with the links that lead east, and below them those that lead west.
-fn print_tiles(
-    rt: &HostRuntime,
-    shown: &GridOnMesh<'_>,
-    first: u16,
-    last: u16,
-) -> io::Result<()> {
+fn print_tiles(rt: &HostRuntime, shown: &GridOnMesh<'_>, first: u16, last: u16) -> io::Result<()> {
     for tile in first..last {
         print!(rt; "[{tile:>2}] ")?;
         print_link(rt, shown, '>', (tile, tile + 1), 7)?;
@@ -53,7 +50,11 @@ fn print_uprights(
     for arrow in ['^', 'v'] {
         for tile in first..=last {
             let below = tile.saturating_sub(shown.width);
-            let ends = if arrow == '^' { (below, tile) } else { (tile, below) };
+            let ends = if arrow == '^' {
+                (below, tile)
+            } else {
+                (tile, below)
+            };
             let columns = if tile == last { 0 } else { 12 };
             print_link(rt, shown, arrow, ends, columns)?;
         }
@@ -65,7 +66,9 @@ fn print_uprights(
 // Prints the loads of the links of a mesh: its tiles from the upper row to the lower one, and between two tiles the links that lead
 // each way, each with its number and its load.
 pub(crate) fn print_loads(rt: &HostRuntime, session: &Session) -> io::Result<()> {
-    let Some(shown) = session.shown() else { return Ok(()) };
+    let Some(shown) = session.shown() else {
+        return Ok(())
+    };
     for y in (0..shown.height).rev() {
         let first = y.saturating_mul(shown.width);
         let last = first.saturating_add(shown.width).saturating_sub(1);

@@ -1,6 +1,7 @@
 // What several rehearsals come to together.
 ghost use Rattle.std.specs.Prelude.{◌≡◌, Some};
 ghost use Rattle.rehearsal.specs.Totals.{strips_sent, sent_together, total_with, known_text, strips_text, steps_text, total_text};
+
 use crate::rehearse::Rehearsal;
 use crate::tally::Tally;
 use std::fmt;
@@ -43,7 +44,11 @@ fn sent_together(tallies: &[Option<Tally>; 64]) -> u64
 fn known(as_known: bool) -> &'static str
     ensures { result.now ≡ known_text as_known }
 {
-    if as_known { "the number" } else { "not the number" }
+    if as_known {
+        "the number"
+    } else {
+        "not the number"
+    }
 }
 
 impl Total {
@@ -60,9 +65,7 @@ impl Total {
         ensures { result ≡ total_with self rehearsal.now }
     {
         Total {
-            sent: self
-                .sent
-                .saturating_add(sent_together(&rehearsal.tallies)),
+            sent: self.sent.saturating_add(sent_together(&rehearsal.tallies)),
             out: self.out.saturating_add(rehearsal.items),
             steps: self.steps.saturating_add(rehearsal.steps),
             ahead: self.ahead.saturating_add(rehearsal.ahead),

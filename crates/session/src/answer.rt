@@ -93,7 +93,9 @@ impl fmt::Display for TallyList<'_> {
 
     fn fmt<W: fmt::Write>(&self, f: &mut fmt::Formatter<W>) -> fmt::Result {
         for number in 0..64 {
-            let Some(tally) = self.0[number] else { continue };
+            let Some(tally) = self.0[number] else {
+                continue
+            };
             let Tally {
                 sent,
                 out,

@@ -1,4 +1,3 @@
-pub mod SameKind
 pub mod WordCuts
 pub mod Decimals
 pub mod Names

@@ -60,6 +60,7 @@ impl Mistake {
     }
 }
 
+/// What is wrong, in a few words.
 impl fmt::Display for Mistake {
     ghost output = { λ mistake. Some (text_of mistake) };
 
@@ -68,6 +69,7 @@ impl fmt::Display for Mistake {
     }
 }
 
+/// There was no memory for a list of the line.
 impl<T: Drop> From<AllocFailed<T>> for Mistake {
     ghost from_gives = { λ _ mistake. mistake ≡ OutOfMemory };
 

@@ -1,10 +1,10 @@
 -- The head under which the plan of a grid is written.
-use Rattle.std.specs.Prelude.{◌≡◌, ℕ, ◌≤◌, Ok}
+use Rattle.std.specs.Prelude.{◌≡◌, ℕ, ◌≤◌, IsSome, Ok}
 use Rattle.layouts.specs.Links.{InRange}
 use Rattle.layouts.specs.declared.turn_rule.TurnRule.{TurnRule}
 use Rattle.layouts.specs.declared.turn_rule.TurnRule.TheVariants.{Xy, WestFirst, NorthLast, NegativeFirst}
 use Rattle.codec.specs.declared.head.Head.{Head}
-use Rattle.codec.specs.Heads.{judged}
+use Rattle.codec.specs.Heads.{rule_numbered, judged}
 use Rattle.plan.specs.Verdicts.{sizes_in}
 
 -- the number of each turn rule
@@ -28,7 +28,7 @@ head_of rule w h lanes depth capacity = record {
 
 -- version, rule and size are those of a mesh
 abbrev pub IsOfMesh : Head → Type 0
-IsOfMesh h = (h.version ≡ 1) × (1 ≤ h.rule) × (h.rule ≤ 4) × InRange h.width h.height
+IsOfMesh h = (h.version ≡ 1) × IsSome (rule_numbered h.rule) × InRange h.width h.height
 
 -- a head is accepted for the grid that it asks for, whatever streams are open
 abbrev pub IsAllowed : Head → Type 0

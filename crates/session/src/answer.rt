@@ -108,6 +108,7 @@ impl fmt::Display for TallyList<'_> {
     }
 }
 
+/// The line, or the lines, that tell the answer.
 impl fmt::Display for Answer {
     ghost output = { λ answer. Some (answer_text answer) };
 

@@ -24,6 +24,7 @@ pub enum Failure {
 }
 
 // The conversions are written out, since the `From` that `thiserror` writes has no contract.
+/// A call that was declined.
 impl From<Declined> for Failure {
     ghost from_gives = { λ declined result. result ≡ failure.Declined declined };
 
@@ -32,6 +33,7 @@ impl From<Declined> for Failure {
     }
 }
 
+/// A call that was declined with no hop to tell.
 impl From<Refusal> for Failure {
     ghost from_gives = { λ refusal result. result ≡ failure.Declined (no_hop refusal) };
 
@@ -40,6 +42,7 @@ impl From<Refusal> for Failure {
     }
 }
 
+/// A line that is mistaken.
 impl From<Mistake> for Failure {
     ghost from_gives = { λ mistake result. result ≡ failure.Mistake mistake };
 
@@ -48,6 +51,7 @@ impl From<Mistake> for Failure {
     }
 }
 
+/// A plan that was not loaded.
 impl From<LoadFault> for Failure {
     ghost from_gives = { λ fault result. result ≡ failure.NotLoaded fault };
 
@@ -71,10 +75,13 @@ impl From<MakeError> for Failure {
 /// A failure with the number of its line, counted from 1.
 #[derive(Clone, Copy, PartialEq, Eq, Debug)]
 pub struct LineFailure {
+    /// The number of the line.
     pub line: u64,
+    /// Why it has no answer.
     pub failure: Failure,
 }
 
+/// `refused NUMBER`, with the hop where one is told; `error LINE: what is wrong`; or a plan's fault.
 impl fmt::Display for LineFailure {
     ghost output = { λ it. Some (failure_text it) };
 

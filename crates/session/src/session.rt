@@ -53,8 +53,11 @@ fn checked(heap: Global, plan: &[u8]) -> Result<Answer, Failure>
 /// A grid on a mesh, with the width and the height of the mesh.
 #[derive(Clone, Copy)]
 pub struct GridOnMesh<'a> {
+    /// The grid.
     pub grid: &'a Grid<Mesh>,
+    /// How many tiles a row of its mesh has.
     pub width: u16,
+    /// How many rows its mesh has.
     pub height: u16,
 }
 
@@ -106,10 +109,10 @@ impl Session {
     /// at hand too. A refusal or a mistake leaves all at hand as it was; where a plan is not loaded, the records ahead of the fault
     /// stay open.
     ///
-    /// Which of equally good routes a seek takes is left open.
+    /// Which of equally good routes a seek takes is left open, and so is which stream sends when in a rehearsal.
     ///
     /// Refuses what `Mesh::new`, `judge` and the calls of a grid refuse, and tells the fault where a plan is not loaded. Where a mesh or a grid is wanted and none is at
-    /// hand, the mistake is `NoMesh` or `NoGrid`; where there is no memory for a grid, it is `OutOfMemory`.
+    /// hand, the mistake is `NoMesh` or `NoGrid`; where there is no memory for a grid, also one that a plan is checked on, it is `OutOfMemory`.
     pub fn answer(&mut self, heap: Global, command: Command) -> Result<Answer, Failure>
         ensures { Answers (hand_of self.old) (instruction_of command) result (hand_of self.new) }
     {

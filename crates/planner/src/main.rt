@@ -19,8 +19,13 @@ fn main(rt: HostRuntime) -> io::Result<()> {
         if name.as_str() == "-" {
             run(&rt, BufReader::new(rt.alloc(), rt.stdin())?)?;
         } else {
-            let file = fs::open(&rt, name.as_str())?;
-            run(&rt, BufReader::new(rt.alloc(), file)?)?;
+            match fs::open(&rt, name.as_str()) {
+                Ok(file) => run(&rt, BufReader::new(rt.alloc(), file)?)?,
+                Err(error) => {
+                    eprintln!(rt; "the planner cannot read {name}")?;
+                    return Err(error);
+                }
+            }
         }
     }
     if !named {

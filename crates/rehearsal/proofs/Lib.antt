@@ -4,3 +4,7 @@ pub mod Tallies
 pub mod Acting
 pub mod Going
 pub mod Sweeping
+pub mod Weights
+pub mod Histories
+pub mod Emptied
+pub mod Completing

@@ -2,3 +2,4 @@ pub mod Strips
 pub mod Acts
 pub mod Rehearsals
 pub mod Totals
+pub mod Completes

@@ -1,5 +1,5 @@
 // Rehearsing the open streams of a grid.
-ghost use Rattle.std.specs.Prelude.{◌≡◌, ℕ, ◌+◌, ◌<◌, false, length, cond, ◌==◌, slice_index_or};
+ghost use Rattle.std.specs.Prelude.{◌≡◌, ℕ, ◌+◌, ◌<◌, false, length, cond, ◌==◌, slice_index_or, IfOk};
 ghost use Rattle.std.specs.Option.{option_map};
 ghost use Rattle.routes.specs.Routes.{streams_of};
 ghost use Rattle.routes.specs.Loads.{stream_count};
@@ -8,6 +8,7 @@ ghost use Rattle.grid.specs.Views.{setting, view};
 ghost use Rattle.rehearsal.specs.Strips.{counted};
 ghost use Rattle.rehearsal.specs.Acts.{start};
 ghost use Rattle.rehearsal.specs.Rehearsals.{tally_at, taken, TellsOf, CountsStrip, SendsNone, GoesOn, Idle, Rests, MayRehearse};
+ghost use Rattle.rehearsal.specs.Completes.{CompletesAfterCalls};
 
 use crate::beat::Beat;
 use crate::tally::{Tally, strip_of};
@@ -15,6 +16,7 @@ use grid::grid::Grid;
 use grid::step::Step;
 use lanes::strip::Strip;
 use layouts::layout::Layout;
+use model::law::law_of_every_run;
 use plan::summary::summary;
 use refusals::refusal::Refusal;
 use routes::hop::Hop;
@@ -192,7 +194,10 @@ pub fn rehearse<L: Layout>(
 ) -> Result<Rehearsal, Refusal>
     ensures layout { grid.new.layout ≡ grid.old.layout }
     ensures made { MayRehearse (L.meaning grid.old.layout) strips grid.old.tables slots.old result grid.new.tables slots.new }
+    ensures complete { IfOk result (λ r. CompletesAfterCalls (L.meaning grid.old.layout) strips grid.old.tables slots.old r) }
 {
+    // computes nothing: it hands the law to the proof
+    law_of_every_run::<Strip>();
     if slots.len() < grid.size().slots() {
         return Err(Refusal::TooFewSlots);
     }

@@ -1,0 +1,223 @@
+-- A rehearsal on a grid that a history from a blank grid has left completes.
+use Rattle.std.proofs.Common.{◌≡◌, ℕ, zero, suc, ◌+◌, ◌*◌, ◌<◌, ◌≤◌, Bool, true, ◌⊎◌, List, [], ◌∷◌, ◌++◌, length, length-take, length-set, length-append, Some, None, Option, get_or, sym, refl, ap, subst, ◌∙◌, ⊎_elim, arith, mul-zero}
+use Rattle.std.proofs.lemmas.List.{append_cancel_left}
+use Rattle.std.proofs.lemmas.Bool.{cases_lt, cond_both, eq-eqb, and_from, le-leb}
+use Rattle.std.specs.Option.{option_map}
+use Rattle.layouts.specs.Layout.{Meaning}
+use Rattle.routes.specs.declared.hop.Hop.{Hop}
+use Rattle.routes.specs.declared.stream.Stream.{Stream}
+use Rattle.routes.specs.Routes.{OpenStream, stream_of}
+use Rattle.routes.specs.Loads.{stream_count}
+use Rattle.model.specs.Grid.{Setting, Grid, enough_slots, route_of}
+use Rattle.model.specs.Sums.{item_count}
+use Rattle.model.specs.Calls.{Call, Answer, outcome}
+use Rattle.model.specs.Layouts.{on_layout}
+use Rattle.model.specs.Runs.{History, ◌▸◌, after, answer_to, is_declined, handed_out_since, hops_let_in}
+use Rattle.model.specs.Slots.{stored, arrival, slots_after}
+use Rattle.model.specs.Law.{NoLaneWillStep, Keeps}
+use Rattle.lanes.specs.declared.strip.Strip.{Strip}
+use Rattle.lanes.specs.Sizes.{slot_count}
+use Rattle.grid.specs.declared.tables.Tables.{Tables}
+use Rattle.grid.specs.Views.{streams_in, setting, view, outline}
+use Rattle.grid.specs.Makes.{Makes}
+use Rattle.plan.specs.Plans.{open_streams}
+use Rattle.plan.specs.Summaries.{hop_count}
+use Rattle.rehearsal.specs.declared.tally.Tally.{Tally}
+use Rattle.rehearsal.specs.declared.rehearse.Rehearsal.{Rehearsal}
+use Rattle.rehearsal.specs.Strips.{strip_of, are_rows, counted}
+use Rattle.rehearsal.specs.Acts.{Acts, start, sent, stepped, sent_by, out_by, gone, steps_gone as steps_of, Made}
+use Rattle.rehearsal.specs.Rehearsals.{tally_at, Tells, Rests, Stands}
+use Rattle.rehearsal.specs.Completes.{Completes}
+use Rattle.rehearsal.proofs.Counting.{are_rows_more}
+use Rattle.rehearsal.proofs.Weights.{route_length, weighed, weighed_most, weighed_all}
+use Rattle.rehearsal.proofs.Histories.{rows, then_acts, Answered, streams_stay, handed_since, let_since, steps_since, hops_since, gone_is}
+use Rattle.rehearsal.proofs.Emptied.{Empty, counted_empty, outline_count, Settled, rests_if_none, none_if_rests, settled, empty_sends}
+
+-- ---- what a history leaves
+
+-- no call changes how many slots there are
+length-stored : (S : Setting) (g : Grid Strip) (o : Option (Hop × Strip)) (xs : List Strip) → length (stored S g o xs) ≡ length xs
+length-stored S g None xs = refl
+length-stored S g (Some a) xs = length-set xs _ a.1
+
+length-slots_after : (S : Setting) (g : Grid Strip) (c : Call Strip) (xs : List Strip) → length (slots_after S g c xs) ≡ length xs
+length-slots_after S g c xs =
+    cond_both (is_declined (outcome S g c).answer) _ _ (λ l. length l ≡ length xs) (λ _. refl) (λ _. length-stored S g (arrival g c) xs)
+
+-- Tables with slots are as a history in a setting leaves them.
+record Left (m : Meaning) (S : Setting) (past : History Strip) (t : Tables) (xs : List Strip) : Type 0 where
+  set_so : setting m t (length xs) ≡ S
+  links : m.links ≡ t.lanes.size.links
+  grid : view t xs ≡ after S past
+
+module _ (m : Meaning) (S : Setting) where
+  module _ (past : History Strip) (t t' : Tables) (xs xs' : List Strip) (c : Call Strip) (a : Answer Strip) (left : Left m S past t xs) (makes : Makes m t xs c a t' xs') where
+    outcome_is : outcome (setting m t (length xs)) (view t xs) c ≡ outcome S (after S past) c
+    outcome_is = rw (left.set_so, left.grid) refl
+
+    -- one call more has its answer, and leaves what it leaves
+    answer_is : a ≡ answer_to S past c
+    answer_is = makes.answer ∙ ap (λ o. o.answer) outcome_is
+
+    left_more : Left m S (past ▸ c) t' xs'
+    left_more =
+        let long : length xs' ≡ length xs = ap length makes.slots ∙ length-slots_after (setting m t (length xs)) (view t xs) c xs in
+        record {
+          set_so = ap (λ s. on_layout m s.lanes s.depth t'.capacity (length xs')) makes.size ∙ rw (makes.capacity, long) left.set_so;
+          links = left.links ∙ ap (λ s. s.links) (sym makes.size);
+          grid = makes.grid ∙ ap (λ o. o.grid) outcome_is;
+        }
+
+  -- so do acts, one after another
+  left_acts : (past : History Strip) (t : Tables) (xs : List Strip) → Left m S past t xs → (acts : Acts) (t' : Tables) (xs' : List Strip) → Made m t xs acts t' xs'
+      → Left m S (then_acts past acts) t' xs' × Answered S past acts
+  left_acts past t xs left start t' xs' made = (rw (made.0, made.1) left, tt)
+  left_acts past t xs left (sent acts n a) t' xs' made =
+      let so_far = left_acts past t xs left acts made.0 made.1 made.2 in
+      (left_more _ made.0 t' made.1 xs' _ a so_far.0 made.3, (so_far.1, answer_is _ made.0 t' made.1 xs' _ a so_far.0 made.3))
+  left_acts past t xs left (stepped acts h a) t' xs' made =
+      let so_far = left_acts past t xs left acts made.0 made.1 made.2 in
+      (left_more _ made.0 t' made.1 xs' _ a so_far.0 made.3, (so_far.1, answer_is _ made.0 t' made.1 xs' _ a so_far.0 made.3))
+
+-- ---- the routes of open streams have 1 to 24 hops
+
+route_short : (entry : Option Stream) → length (route_of (option_map stream_of entry)) ≤ 24
+route_short None = omega arith
+route_short (Some s) = omega (arith, length-take s.route.count s.route.table, s.route.few)
+
+route_some : (entry : Option Stream) (s : OpenStream) → option_map stream_of entry ≡ Some s → 1 ≤ length s.hops
+route_some None s is = cc
+route_some (Some x) s is =
+    let same : stream_of x ≡ s = cc in
+    omega (arith, ap (λ (s : OpenStream). length s.hops) same, length-take x.route.count x.route.table, x.route.some, x.route.whole)
+
+-- ---- rows that came out
+
+length-rows : (n count : ℕ) → length (rows n count) ≡ count
+length-rows n zero = refl
+length-rows n (suc count) = omega (arith, length-append (rows n count) (strip_of n count ∷ []), length-rows n count)
+
+rows_in_order : (n count : ℕ) → are_rows n 0 (rows n count) ≡ true
+rows_in_order n zero = refl
+rows_in_order n (suc count) =
+    let row : 0 + length (rows n count) ≡ count = omega (arith, length-rows n count) in
+    are_rows_more n 0 (rows n count) (strip_of n count)
+    ∙ and_from _ _ (rows_in_order n count) (rw row (and_from _ _ (eq-eqb n n refl) (eq-eqb count count refl)))
+
+tally_is : (tally : Tally) (count out : ℕ) (in_order : Bool) → tally.sent ≡ count → tally.out ≡ out → tally.in_order ≡ in_order
+    → tally ≡ record { sent = count; out = out; in_order = in_order }
+tally_is tally count out in_order so_many outs order = rw (← so_many, ← outs, ← order) refl
+
+-- ---- a rehearsal
+
+-- A rehearsal may be made on these tables with these slots: there are slots for all lanes, nothing is on the grid, and the law of every run holds.
+pub record Ready (m : Meaning) (t : Tables) (xs : List Strip) : Type 0 where
+  pub links : m.links ≡ t.lanes.size.links
+  pub enough : slot_count t.lanes.size ≤ length xs
+  pub none : item_count (setting m t 0) (outline t) ≡ 0
+  pub law : (past : History Strip) → Keeps (setting m t (length xs)) past
+
+module _ (m : Meaning) (strips : ℕ) (t t' : Tables) (xs xs' : List Strip) (r : Rehearsal) (acts : Acts) (stands : Stands m strips t xs acts r t' xs')
+    (ready : Ready m t xs) (past : History Strip) (left : view t xs ≡ after (setting m t (length xs)) past) where
+  abbrev S : Setting
+  S = setting m t (length xs)
+
+  enough : enough_slots S ≡ true
+  enough = rw ready.links (le-leb _ _ ready.enough)
+
+  abbrev run : History Strip
+  run = then_acts past acts
+
+  ends_so : Left m S run t' xs' × Answered S past acts
+  ends_so = left_acts m S past t xs (record { set_so = refl; links = ready.links; grid = left }) acts t' xs' stands.made
+
+  streams_are : (after S past).streams ≡ streams_in t
+  streams_are = ap (λ g. g.streams) (sym left)
+
+  before : Settled S past
+  before =
+      let empty = outline_count m t xs ready.links enough ∙ ready.none in
+      settled S past (ready.law past) (rests_if_none S past (ready.law past) (subst (λ g. item_count S g ≡ 0) left empty)) (subst Empty left (counted_empty m t xs ready.links empty))
+
+  hops_are : hops_let_in S run ≡ hops_let_in S past + weighed (route_length (streams_in t)) acts
+  hops_are = hops_since S past acts ends_so.1 ∙ ap (λ streams. hops_let_in S past + weighed (route_length streams) acts) streams_are
+
+  -- at most as many steps went as the strips that were let in have hops
+  few_steps : steps_of acts ≤ weighed (route_length (streams_in t)) acts
+  few_steps = omega (arith, (ready.law run).hops, steps_since S past acts ends_so.1, hops_are, before.steps)
+
+  -- so no rehearsal goes on until a number of 64 bits cannot count it
+  not_endless : strips < 65536 → 18446744073709551615 ≤ gone acts → ⊥
+  not_endless narrow endless =
+      let sends = weighed_most (λ _. 1) acts strips 1 stands.few (λ n. omega arith) in
+      let hops = weighed_most (route_length (streams_in t)) acts strips 24 stands.few (λ n. route_short (get_or t.streams n None)) in
+      omega (arith, few_steps, gone_is S past acts ends_so.1, sends, hops)
+
+  module _ (rests : Rests m t' xs' strips r) where
+    no_step : NoLaneWillStep S (after S run)
+    no_step = rw (ends_so.0.set_so, ends_so.0.grid) at rests.no_step
+
+    empty_at_end : Empty (view t' xs')
+    empty_at_end =
+        counted_empty m t' xs' ends_so.0.links
+        (ap (λ s. item_count s (view t' xs')) ends_so.0.set_so ∙ ap (item_count S) ends_so.0.grid ∙ none_if_rests S run (ready.law run) no_step)
+
+    afterwards : Settled S run
+    afterwards = settled S run (ready.law run) no_step (subst Empty ends_so.0.grid empty_at_end)
+
+    steps_are : steps_of acts ≡ weighed (route_length (streams_in t)) acts
+    steps_are = omega (arith, steps_since S past acts ends_so.1, hops_are, before.steps, afterwards.steps)
+
+    module _ (n : ℕ) (s : OpenStream) (low : n < stream_count) (is : streams_in t n ≡ Some s) where
+      open_before : (after S past).streams n ≡ Some s
+      open_before = ap (λ streams. streams n) streams_are ∙ is
+
+      open_at_end : (after S run).streams n ≡ Some s
+      open_at_end = ap (λ streams. streams n) (streams_stay S past acts) ∙ open_before
+
+      told : (tally : Tally) × (tally_at r n ≡ Some tally) × Tells acts n tally
+      told = rw is at (stands.counts.tallies n low)
+
+      -- the lanes are empty, so no strip is left
+      none_left : told.0.sent < strips → ⊥
+      none_left less =
+          rests.no_send n low told.0 told.1 less (strip_of n 0)
+          (empty_sends (setting m t' (length xs')) (view t' xs') n (strip_of n 0) s empty_at_end (ap enough_slots ends_so.0.set_so ∙ enough) t'.lanes.size.deep.0 low
+          (ap (λ g. g.streams n) ends_so.0.grid ∙ open_at_end) (route_some (get_or t.streams n None) s is))
+
+      all_sent : sent_by n acts ≡ strips
+      all_sent =
+          ⊎_elim (λ (less : told.0.sent < strips). absurd (none_left less)) (λ (all : strips ≤ told.0.sent). omega (arith, stands.few n, told.2.sent)) (cases_lt told.0.sent strips)
+
+      all_out : out_by n acts ≡ rows n strips
+      all_out =
+          append_cancel_left (handed_out_since S n past) (out_by n acts) (rows n (sent_by n acts))
+          (sym (handed_since S past n acts ends_so.1) ∙ sym (afterwards.streams n s open_at_end) ∙ let_since S past n acts ends_so.1
+          ∙ ap (λ l. l ++ rows n (sent_by n acts)) (before.streams n s open_before))
+          ∙ ap (rows n) all_sent
+
+      tally_complete : strips < 65536 → tally_at r n ≡ Some (record { sent = strips; out = strips; in_order = true })
+      tally_complete narrow =
+          told.1
+          ∙ ap Some (tally_is told.0 strips strips true (told.2.sent ∙ all_sent)
+          (told.2.out ∙ ap (λ l. counted (length l)) all_out ∙ omega (arith, length-rows n strips))
+          (told.2.in_order ∙ ap (are_rows n 0) all_out ∙ rows_in_order n strips))
+
+    hops_sent : (n : ℕ) → n < stream_count → (entry : Option OpenStream) → streams_in t n ≡ entry
+        → sent_by n acts * length (route_of entry) ≡ strips * length (route_of entry)
+    hops_sent n low None is = mul-zero (sent_by n acts) ∙ sym (mul-zero strips)
+    hops_sent n low (Some s) is = ap (λ k. k * length s.hops) (all_sent n s low is)
+
+    completes_at_rest : strips < 65536 → r.ahead ≡ counted (strips * hop_count (open_streams (streams_in t))) → Completes (streams_in t) strips r
+    completes_at_rest narrow ahead = record {
+      all = λ n s low is. tally_complete n s low is narrow;
+      steps =
+          stands.counts.steps
+          ∙ ap counted (steps_are ∙ weighed_all (streams_in t) acts strips (λ n low. hops_sent n low (streams_in t n) refl))
+          ∙ sym ahead;
+    }
+
+  pub completes : strips < 65536 → r.ahead ≡ counted (strips * hop_count (open_streams (streams_in t)))
+      → Rests m t' xs' strips r ⊎ (18446744073709551615 ≤ gone acts) → Completes (streams_in t) strips r
+  completes narrow ahead ends =
+      ⊎_elim (λ (rests : Rests m t' xs' strips r). completes_at_rest rests narrow ahead) (λ (endless : 18446744073709551615 ≤ gone acts). absurd (not_endless narrow endless)) ends

@@ -1,83 +1,37 @@
--- A rehearsal on a grid that a history from a blank grid has left completes.
-use Rattle.std.proofs.Common.{◌≡◌, ℕ, zero, suc, ◌+◌, ◌*◌, ◌<◌, ◌≤◌, Bool, true, ◌⊎◌, List, [], ◌∷◌, ◌++◌, length, length-take, length-set, length-append, Some, None, Option, get_or, sym, refl, ap, subst, ◌∙◌, ⊎_elim, arith, mul-zero}
+-- A rehearsal that is made completes.
+use Rattle.std.proofs.Common.{◌≡◌, ℕ, zero, suc, ◌+◌, ◌*◌, ◌<◌, ◌≤◌, Bool, true, ◌⊎◌, List, [], ◌∷◌, ◌++◌, length, length-take, length-append, Some, None, Option, get_or, sym, refl, ap, subst, ◌∙◌, ⊎_elim, arith, mul-zero}
+use Rattle.std.proofs.Math.Path.{fun_ext}
 use Rattle.std.proofs.lemmas.List.{append_cancel_left}
-use Rattle.std.proofs.lemmas.Bool.{cases_lt, cond_both, eq-eqb, and_from, le-leb}
+use Rattle.std.proofs.lemmas.Bool.{cases_lt, eq-eqb, and_from, le-leb}
 use Rattle.std.specs.Option.{option_map}
 use Rattle.layouts.specs.Layout.{Meaning}
-use Rattle.routes.specs.declared.hop.Hop.{Hop}
 use Rattle.routes.specs.declared.stream.Stream.{Stream}
 use Rattle.routes.specs.Routes.{OpenStream, stream_of}
 use Rattle.routes.specs.Loads.{stream_count}
 use Rattle.model.specs.Grid.{Setting, Grid, enough_slots, route_of}
 use Rattle.model.specs.Sums.{item_count}
-use Rattle.model.specs.Calls.{Call, Answer, outcome}
-use Rattle.model.specs.Layouts.{on_layout}
-use Rattle.model.specs.Runs.{History, ◌▸◌, after, answer_to, is_declined, handed_out_since, hops_let_in}
-use Rattle.model.specs.Slots.{stored, arrival, slots_after}
+use Rattle.model.specs.Runs.{History, after, is_declined, handed_out_since, hops_let_in}
 use Rattle.model.specs.Law.{NoLaneWillStep, Keeps}
 use Rattle.lanes.specs.declared.strip.Strip.{Strip}
 use Rattle.lanes.specs.Sizes.{slot_count}
 use Rattle.grid.specs.declared.tables.Tables.{Tables}
+use Rattle.grid.specs.Sound.{Sound}
 use Rattle.grid.specs.Views.{streams_in, setting, view, outline}
-use Rattle.grid.specs.Makes.{Makes}
 use Rattle.plan.specs.Plans.{open_streams}
 use Rattle.plan.specs.Summaries.{hop_count}
 use Rattle.rehearsal.specs.declared.tally.Tally.{Tally}
 use Rattle.rehearsal.specs.declared.rehearse.Rehearsal.{Rehearsal}
 use Rattle.rehearsal.specs.Strips.{strip_of, are_rows, counted}
-use Rattle.rehearsal.specs.Acts.{Acts, start, sent, stepped, sent_by, out_by, gone, steps_gone as steps_of, Made}
+use Rattle.rehearsal.specs.Acts.{Acts, sent_by, out_by, gone, steps_gone as steps_of}
 use Rattle.rehearsal.specs.Rehearsals.{tally_at, Tells, Rests, Stands}
 use Rattle.rehearsal.specs.Completes.{Completes}
 use Rattle.rehearsal.proofs.Counting.{are_rows_more}
 use Rattle.rehearsal.proofs.Weights.{route_length, weighed, weighed_most, weighed_all}
 use Rattle.rehearsal.proofs.Histories.{rows, then_acts, Answered, streams_stay, handed_since, let_since, steps_since, hops_since, gone_is}
-use Rattle.rehearsal.proofs.Emptied.{Empty, counted_empty, outline_count, Settled, rests_if_none, none_if_rests, settled, empty_sends}
-
--- ---- what a history leaves
-
--- no call changes how many slots there are
-length-stored : (S : Setting) (g : Grid Strip) (o : Option (Hop × Strip)) (xs : List Strip) → length (stored S g o xs) ≡ length xs
-length-stored S g None xs = refl
-length-stored S g (Some a) xs = length-set xs _ a.1
-
-length-slots_after : (S : Setting) (g : Grid Strip) (c : Call Strip) (xs : List Strip) → length (slots_after S g c xs) ≡ length xs
-length-slots_after S g c xs =
-    cond_both (is_declined (outcome S g c).answer) _ _ (λ l. length l ≡ length xs) (λ _. refl) (λ _. length-stored S g (arrival g c) xs)
-
--- Tables with slots are as a history in a setting leaves them.
-record Left (m : Meaning) (S : Setting) (past : History Strip) (t : Tables) (xs : List Strip) : Type 0 where
-  set_so : setting m t (length xs) ≡ S
-  links : m.links ≡ t.lanes.size.links
-  grid : view t xs ≡ after S past
-
-module _ (m : Meaning) (S : Setting) where
-  module _ (past : History Strip) (t t' : Tables) (xs xs' : List Strip) (c : Call Strip) (a : Answer Strip) (left : Left m S past t xs) (makes : Makes m t xs c a t' xs') where
-    outcome_is : outcome (setting m t (length xs)) (view t xs) c ≡ outcome S (after S past) c
-    outcome_is = rw (left.set_so, left.grid) refl
-
-    -- one call more has its answer, and leaves what it leaves
-    answer_is : a ≡ answer_to S past c
-    answer_is = makes.answer ∙ ap (λ o. o.answer) outcome_is
-
-    left_more : Left m S (past ▸ c) t' xs'
-    left_more =
-        let long : length xs' ≡ length xs = ap length makes.slots ∙ length-slots_after (setting m t (length xs)) (view t xs) c xs in
-        record {
-          set_so = ap (λ s. on_layout m s.lanes s.depth t'.capacity (length xs')) makes.size ∙ rw (makes.capacity, long) left.set_so;
-          links = left.links ∙ ap (λ s. s.links) (sym makes.size);
-          grid = makes.grid ∙ ap (λ o. o.grid) outcome_is;
-        }
-
-  -- so do acts, one after another
-  left_acts : (past : History Strip) (t : Tables) (xs : List Strip) → Left m S past t xs → (acts : Acts) (t' : Tables) (xs' : List Strip) → Made m t xs acts t' xs'
-      → Left m S (then_acts past acts) t' xs' × Answered S past acts
-  left_acts past t xs left start t' xs' made = (rw (made.0, made.1) left, tt)
-  left_acts past t xs left (sent acts n a) t' xs' made =
-      let so_far = left_acts past t xs left acts made.0 made.1 made.2 in
-      (left_more _ made.0 t' made.1 xs' _ a so_far.0 made.3, (so_far.1, answer_is _ made.0 t' made.1 xs' _ a so_far.0 made.3))
-  left_acts past t xs left (stepped acts h a) t' xs' made =
-      let so_far = left_acts past t xs left acts made.0 made.1 made.2 in
-      (left_more _ made.0 t' made.1 xs' _ a so_far.0 made.3, (so_far.1, answer_is _ made.0 t' made.1 xs' _ a so_far.0 made.3))
+use Rattle.rehearsal.proofs.Places.{at_places, steps_same}
+use Rattle.rehearsal.proofs.Following.{Left, left_acts}
+use Rattle.rehearsal.proofs.Reopening.{Reopened, reopened, none_beyond}
+use Rattle.rehearsal.proofs.Emptied.{Empty, empty_counts, counted_empty, outline_count, Settled, rests_if_none, none_if_rests, settled, empty_sends}
 
 -- ---- the routes of open streams have 1 to 24 hops
 
@@ -110,37 +64,55 @@ tally_is tally count out in_order so_many outs order = rw (← so_many, ← outs
 
 -- ---- a rehearsal
 
--- A rehearsal may be made on these tables with these slots: there are slots for all lanes, nothing is on the grid, and the law of every run holds.
+-- A rehearsal may be made on these tables with these slots: there are slots for all lanes, nothing is on the grid, the open streams are as every grid
+-- has them, and the law of every run holds.
 pub record Ready (m : Meaning) (t : Tables) (xs : List Strip) : Type 0 where
   pub links : m.links ≡ t.lanes.size.links
   pub enough : slot_count t.lanes.size ≤ length xs
   pub none : item_count (setting m t 0) (outline t) ≡ 0
+  pub sound : Sound m t.lanes.size.lanes t.capacity (streams_in t)
   pub law : (past : History Strip) → Keeps (setting m t (length xs)) past
 
+-- grids with the same open streams and the same items are the same but for the places
+alike : (g g' : Grid Strip) → g.streams ≡ g'.streams → g.contents ≡ g'.contents → g ≡ at_places g.places g'
+alike g g' streams contents = rw (← streams, ← contents) refl
+
 module _ (m : Meaning) (strips : ℕ) (t t' : Tables) (xs xs' : List Strip) (r : Rehearsal) (acts : Acts) (stands : Stands m strips t xs acts r t' xs')
-    (ready : Ready m t xs) (past : History Strip) (left : view t xs ≡ after (setting m t (length xs)) past) where
+    (ready : Ready m t xs) where
   abbrev S : Setting
   S = setting m t (length xs)
 
   enough : enough_slots S ≡ true
   enough = rw ready.links (le-leb _ _ ready.enough)
 
+  -- A history leaves the grid as it is but for the places. They make no difference to the acts.
+  begun : Reopened S (streams_in t)
+  begun = reopened m t.lanes.size.lanes t.lanes.size.depth t.capacity (length xs) (streams_in t) ready.sound (none_beyond t.streams t.all)
+
+  abbrev past : History Strip
+  past = begun.past
+
   abbrev run : History Strip
   run = then_acts past acts
 
-  ends_so : Left m S run t' xs' × Answered S past acts
-  ends_so = left_acts m S past t xs (record { set_so = refl; links = ready.links; grid = left }) acts t' xs' stands.made
+  left_at_start : Left m S past t xs
+  left_at_start =
+      let empty = counted_empty m t xs ready.links (outline_count m t xs ready.links enough ∙ ready.none) in
+      record {
+        set_so = refl;
+        links = ready.links;
+        places = (view t xs).places;
+        grid = alike (view t xs) (after S past) (sym begun.streams_are) (fun_ext (λ link. fun_ext (λ lane. empty link lane ∙ sym (begun.empty link lane))));
+      }
 
-  streams_are : (after S past).streams ≡ streams_in t
-  streams_are = ap (λ g. g.streams) (sym left)
+  ends_so : Left m S run t' xs' × Answered S past acts
+  ends_so = left_acts m S past t xs left_at_start acts t' xs' stands.made
 
   before : Settled S past
-  before =
-      let empty = outline_count m t xs ready.links enough ∙ ready.none in
-      settled S past (ready.law past) (rests_if_none S past (ready.law past) (subst (λ g. item_count S g ≡ 0) left empty)) (subst Empty left (counted_empty m t xs ready.links empty))
+  before = settled S past (ready.law past) (rests_if_none S past (ready.law past) (empty_counts S (after S past) begun.empty)) begun.empty
 
   hops_are : hops_let_in S run ≡ hops_let_in S past + weighed (route_length (streams_in t)) acts
-  hops_are = hops_since S past acts ends_so.1 ∙ ap (λ streams. hops_let_in S past + weighed (route_length streams) acts) streams_are
+  hops_are = hops_since S past acts ends_so.1 ∙ ap (λ streams. hops_let_in S past + weighed (route_length streams) acts) begun.streams_are
 
   -- at most as many steps went as the strips that were let in have hops
   few_steps : steps_of acts ≤ weighed (route_length (streams_in t)) acts
@@ -155,7 +127,9 @@ module _ (m : Meaning) (strips : ℕ) (t t' : Tables) (xs xs' : List Strip) (r :
 
   module _ (rests : Rests m t' xs' strips r) where
     no_step : NoLaneWillStep S (after S run)
-    no_step = rw (ends_so.0.set_so, ends_so.0.grid) at rests.no_step
+    no_step link lane goes =
+        let rests_there = rw (ends_so.0.set_so, ends_so.0.grid) at rests.no_step in
+        rests_there link lane (ap is_declined (steps_same S ends_so.0.places (after S run) link lane).answer ∙ goes)
 
     empty_at_end : Empty (view t' xs')
     empty_at_end =
@@ -170,7 +144,7 @@ module _ (m : Meaning) (strips : ℕ) (t t' : Tables) (xs xs' : List Strip) (r :
 
     module _ (n : ℕ) (s : OpenStream) (low : n < stream_count) (is : streams_in t n ≡ Some s) where
       open_before : (after S past).streams n ≡ Some s
-      open_before = ap (λ streams. streams n) streams_are ∙ is
+      open_before = ap (λ streams. streams n) begun.streams_are ∙ is
 
       open_at_end : (after S run).streams n ≡ Some s
       open_at_end = ap (λ streams. streams n) (streams_stay S past acts) ∙ open_before

@@ -10,7 +10,7 @@ use Rattle.model.specs.Sums.{of_stream, queue_sum, grid_sum, one, item_count}
 use Rattle.model.specs.Calls.{sends, send_refusal}
 use Rattle.model.specs.Runs.{History, after, let_in_since, handed_out_since, steps_gone, hops_let_in}
 use Rattle.model.specs.Law.{Goes, NoLaneWillStep, Keeps}
-use Rattle.model.proofs.GridSums.{grid_sum_at}
+use Rattle.model.proofs.GridSums.{grid_sum_zero, grid_sum_at}
 use Rattle.model.proofs.Outlines.{grid_sum-without_items, grid_sum_same_lanes}
 use Rattle.lanes.specs.declared.strip.Strip.{Strip}
 use Rattle.lanes.specs.Sizes.{holds, lane_of}
@@ -26,6 +26,9 @@ Empty g = (link lane : ℕ) → g.contents link lane ≡ []
 none_in : (link : ℕ) (queue : Queue Strip) → queue_sum (one link) queue ≡ 0 → queue ≡ []
 none_in link [] none = refl
 none_in link (item ∷ queue) none = absurd (omega arith)
+
+pub empty_counts : (S : Setting) (g : Grid Strip) → Empty g → item_count S g ≡ 0
+empty_counts S g empty = grid_sum_zero S one g.contents (λ link lane _. ap (queue_sum (one link)) (empty link lane))
 
 module _ (m : Meaning) (t : Tables) (xs : List Strip) (links : m.links ≡ t.lanes.size.links) where
   -- none does where none is counted

@@ -7,4 +7,7 @@ pub mod Sweeping
 pub mod Weights
 pub mod Histories
 pub mod Emptied
+pub mod Places
+pub mod Following
+pub mod Reopening
 pub mod Completing

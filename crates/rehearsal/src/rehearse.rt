@@ -4,11 +4,11 @@ ghost use Rattle.std.specs.Option.{option_map};
 ghost use Rattle.routes.specs.Routes.{streams_of};
 ghost use Rattle.routes.specs.Loads.{stream_count};
 ghost use Rattle.model.specs.Law.{WillStep, NoLaneWillStep};
-ghost use Rattle.grid.specs.Views.{setting, view};
+ghost use Rattle.grid.specs.Views.{streams_in, setting, view};
 ghost use Rattle.rehearsal.specs.Strips.{counted};
 ghost use Rattle.rehearsal.specs.Acts.{start};
 ghost use Rattle.rehearsal.specs.Rehearsals.{tally_at, taken, TellsOf, CountsStrip, SendsNone, GoesOn, Idle, Rests, MayRehearse};
-ghost use Rattle.rehearsal.specs.Completes.{CompletesAfterCalls};
+ghost use Rattle.rehearsal.specs.Completes.{Completes};
 
 use crate::beat::Beat;
 use crate::tally::{Tally, strip_of};
@@ -184,6 +184,7 @@ impl Rehearsal {
 }
 
 /// Rehearses the open streams: each sends so many strips, in the beat, and the lanes step in turn, until nothing goes any more.
+/// It completes: every open stream lets in all its strips, and all of them come out, in order, by as many steps as were known ahead.
 ///
 /// Refuses too few slots by `TooFewSlots`, and a grid that has items by `ItemsOnGrid`.
 pub fn rehearse<L: Layout>(
@@ -194,7 +195,7 @@ pub fn rehearse<L: Layout>(
 ) -> Result<Rehearsal, Refusal>
     ensures layout { grid.new.layout ≡ grid.old.layout }
     ensures made { MayRehearse (L.meaning grid.old.layout) strips grid.old.tables slots.old result grid.new.tables slots.new }
-    ensures complete { IfOk result (λ r. CompletesAfterCalls (L.meaning grid.old.layout) strips grid.old.tables slots.old r) }
+    ensures complete { IfOk result (λ r. Completes (streams_in grid.old.tables) strips r) }
 {
     // computes nothing: it hands the law to the proof
     law_of_every_run::<Strip>();

@@ -13,6 +13,7 @@ loop-turn-init g c =
         links = c.args.grid.now.fits;
         enough = subst (λ s. slot_count s ≤ length c.args.slots.now) c.size.ensures (rw c.slots.ensures at c.if-slots.false);
         none = sym c.items.ensures ∙ c.if-items-ne0.false;
+        sound = c.args.grid.now.sound;
         law = c.law_of_every_run.ensures _ (g.met.L.Layout.lawful c.args.grid.now.layout) _ _ _ _ c.args.grid.now.tables.lanes.size.deep.0;
       };
       acts = (
@@ -27,15 +28,15 @@ loop-turn-init g c =
     }
 
 pub returns-after-loop-turn-clause-complete : goal.returns-after-loop-turn-clause-complete
-returns-after-loop-turn-clause-complete g c past left =
+returns-after-loop-turn-clause-complete g c =
     let begun = c.loop-turn.invariant in
-    completes _ c.args.strips c.args.grid.now.tables _ c.args.slots.now _ c.loop-turn.rehearsal begun.acts.0 begun.acts.1 begun.ready past left (omega arith) begun.ahead
+    completes _ c.args.strips c.args.grid.now.tables _ c.args.slots.now _ c.loop-turn.rehearsal begun.acts.0 begun.acts.1 begun.ready (omega arith) begun.ahead
     (inr (omega (arith, begun.acts.2)))
 
 pub returns-then-not-turn-clause-complete : goal.returns-then-not-turn-clause-complete
-returns-then-not-turn-clause-complete g c past left =
+returns-then-not-turn-clause-complete g c =
     let begun = c.loop-turn.invariant in
     let turn = c.turn.ensures in
     let acts = (rw begun.layout at turn.on).stands c.args.grid.now.tables c.args.slots.now begun.acts.0 begun.acts.1 in
-    completes _ c.args.strips c.args.grid.now.tables _ c.args.slots.now _ c.turn.new.self acts.0 acts.1 begun.ready past left (omega arith) (turn.on.ahead ∙ begun.ahead)
+    completes _ c.args.strips c.args.grid.now.tables _ c.args.slots.now _ c.turn.new.self acts.0 acts.1 begun.ready (omega arith) (turn.on.ahead ∙ begun.ahead)
     (inl (rw begun.layout at (turn.rests c.if-not-turn.true)))

@@ -1,8 +1,8 @@
 -- A rehearsal that is made completes.
-use Rattle.std.proofs.Common.{◌≡◌, ℕ, zero, suc, ◌+◌, ◌*◌, ◌<◌, ◌≤◌, Bool, true, ◌⊎◌, List, [], ◌∷◌, ◌++◌, length, length-take, length-append, Some, None, Option, get_or, sym, refl, ap, subst, ◌∙◌, ⊎_elim, arith, mul-zero}
+use Rattle.std.proofs.Common.{◌≡◌, ℕ, ◌+◌, ◌*◌, ◌<◌, ◌≤◌, Bool, true, ◌⊎◌, List, ◌++◌, length, length-take, Some, None, Option, get_or, sym, refl, ap, subst, ◌∙◌, ⊎_elim, arith, mul-zero}
 use Rattle.std.proofs.Math.Path.{fun_ext}
 use Rattle.std.proofs.lemmas.List.{append_cancel_left}
-use Rattle.std.proofs.lemmas.Bool.{cases_lt, eq-eqb, and_from, le-leb}
+use Rattle.std.proofs.lemmas.Bool.{cases_lt, le-leb}
 use Rattle.std.specs.Option.{option_map}
 use Rattle.layouts.specs.Layout.{Meaning}
 use Rattle.routes.specs.declared.stream.Stream.{Stream}
@@ -25,9 +25,9 @@ use Rattle.rehearsal.specs.Strips.{strip_of, are_rows, counted}
 use Rattle.rehearsal.specs.Acts.{Acts, sent_by, out_by, gone, steps_gone as steps_of}
 use Rattle.rehearsal.specs.Rehearsals.{tally_at, Tells, Rests, Stands}
 use Rattle.rehearsal.specs.Completes.{Completes}
-use Rattle.rehearsal.proofs.Counting.{are_rows_more}
+use Rattle.rehearsal.proofs.Rows.{rows, length-rows, rows_in_order}
 use Rattle.rehearsal.proofs.Weights.{route_length, weighed, weighed_most, weighed_all}
-use Rattle.rehearsal.proofs.Histories.{rows, then_acts, Answered, streams_stay, handed_since, let_since, steps_since, hops_since, gone_is}
+use Rattle.rehearsal.proofs.Histories.{then_acts, Answered, streams_stay, handed_since, let_since, steps_since, hops_since, gone_is}
 use Rattle.rehearsal.proofs.Places.{at_places, steps_same}
 use Rattle.rehearsal.proofs.Following.{Left, left_acts}
 use Rattle.rehearsal.proofs.Reopening.{Reopened, reopened, none_beyond}
@@ -35,34 +35,24 @@ use Rattle.rehearsal.proofs.Emptied.{Empty, empty_counts, counted_empty, outline
 
 -- ---- the routes of open streams have 1 to 24 hops
 
+-- not more than 24
 route_short : (entry : Option Stream) → length (route_of (option_map stream_of entry)) ≤ 24
 route_short None = omega arith
 route_short (Some s) = omega (arith, length-take s.route.count s.route.table, s.route.few)
 
+-- and at least one
 route_some : (entry : Option Stream) (s : OpenStream) → option_map stream_of entry ≡ Some s → 1 ≤ length s.hops
 route_some None s is = cc
 route_some (Some x) s is =
     let same : stream_of x ≡ s = cc in
     omega (arith, ap (λ (s : OpenStream). length s.hops) same, length-take x.route.count x.route.table, x.route.some, x.route.whole)
 
--- ---- rows that came out
+-- ---- a rehearsal
 
-length-rows : (n count : ℕ) → length (rows n count) ≡ count
-length-rows n zero = refl
-length-rows n (suc count) = omega (arith, length-append (rows n count) (strip_of n count ∷ []), length-rows n count)
-
-rows_in_order : (n count : ℕ) → are_rows n 0 (rows n count) ≡ true
-rows_in_order n zero = refl
-rows_in_order n (suc count) =
-    let row : 0 + length (rows n count) ≡ count = omega (arith, length-rows n count) in
-    are_rows_more n 0 (rows n count) (strip_of n count)
-    ∙ and_from _ _ (rows_in_order n count) (rw row (and_from _ _ (eq-eqb n n refl) (eq-eqb count count refl)))
-
+-- a tally that tells these numbers is this one
 tally_is : (tally : Tally) (count out : ℕ) (in_order : Bool) → tally.sent ≡ count → tally.out ≡ out → tally.in_order ≡ in_order
     → tally ≡ record { sent = count; out = out; in_order = in_order }
 tally_is tally count out in_order so_many outs order = rw (← so_many, ← outs, ← order) refl
-
--- ---- a rehearsal
 
 -- A rehearsal may be made on these tables with these slots: there are slots for all lanes, nothing is on the grid, the open streams are as every grid
 -- has them, and the law of every run holds.
@@ -82,6 +72,7 @@ module _ (m : Meaning) (strips : ℕ) (t t' : Tables) (xs xs' : List Strip) (r :
   abbrev S : Setting
   S = setting m t (length xs)
 
+  -- there are slots for all lanes
   enough : enough_slots S ≡ true
   enough = rw ready.links (le-leb _ _ ready.enough)
 
@@ -95,6 +86,7 @@ module _ (m : Meaning) (strips : ℕ) (t t' : Tables) (xs xs' : List Strip) (r :
   abbrev run : History Strip
   run = then_acts past acts
 
+  -- nothing is on the grid, nor after the history
   left_at_start : Left m S past t xs
   left_at_start =
       let empty = counted_empty m t xs ready.links (outline_count m t xs ready.links enough ∙ ready.none) in
@@ -105,12 +97,15 @@ module _ (m : Meaning) (strips : ℕ) (t t' : Tables) (xs xs' : List Strip) (r :
         grid = alike (view t xs) (after S past) (sym begun.streams_are) (fun_ext (λ link. fun_ext (λ lane. empty link lane ∙ sym (begun.empty link lane))));
       }
 
+  -- the acts go on with it
   ends_so : Left m S run t' xs' × Answered S past acts
   ends_so = left_acts m S past t xs left_at_start acts t' xs' stands.made
 
+  -- what the counts of the run have come to before the acts
   before : Settled S past
   before = settled S past (ready.law past) (rests_if_none S past (ready.law past) (empty_counts S (after S past) begun.empty)) begun.empty
 
+  -- what the acts let in
   hops_are : hops_let_in S run ≡ hops_let_in S past + weighed (route_length (streams_in t)) acts
   hops_are = hops_since S past acts ends_so.1 ∙ ap (λ streams. hops_let_in S past + weighed (route_length streams) acts) begun.streams_are
 
@@ -126,6 +121,7 @@ module _ (m : Meaning) (strips : ℕ) (t t' : Tables) (xs xs' : List Strip) (r :
       omega (arith, few_steps, gone_is S past acts ends_so.1, sends, hops)
 
   module _ (rests : Rests m t' xs' strips r) where
+    -- no lane will step, so nothing is on the grid at the end
     no_step : NoLaneWillStep S (after S run)
     no_step link lane goes =
         let rests_there = rw (ends_so.0.set_so, ends_so.0.grid) at rests.no_step in
@@ -136,19 +132,23 @@ module _ (m : Meaning) (strips : ℕ) (t t' : Tables) (xs xs' : List Strip) (r :
         counted_empty m t' xs' ends_so.0.links
         (ap (λ s. item_count s (view t' xs')) ends_so.0.set_so ∙ ap (item_count S) ends_so.0.grid ∙ none_if_rests S run (ready.law run) no_step)
 
+    -- and everything that was let in came out
     afterwards : Settled S run
     afterwards = settled S run (ready.law run) no_step (subst Empty ends_so.0.grid empty_at_end)
 
+    -- as many steps went as the strips that were let in have hops
     steps_are : steps_of acts ≡ weighed (route_length (streams_in t)) acts
     steps_are = omega (arith, steps_since S past acts ends_so.1, hops_are, before.steps, afterwards.steps)
 
     module _ (n : ℕ) (s : OpenStream) (low : n < stream_count) (is : streams_in t n ≡ Some s) where
+      -- the stream is open throughout
       open_before : (after S past).streams n ≡ Some s
       open_before = ap (λ streams. streams n) begun.streams_are ∙ is
 
       open_at_end : (after S run).streams n ≡ Some s
       open_at_end = ap (λ streams. streams n) (streams_stay S past acts) ∙ open_before
 
+      -- its tally
       told : (tally : Tally) × (tally_at r n ≡ Some tally) × Tells acts n tally
       told = rw is at (stands.counts.tallies n low)
 
@@ -163,6 +163,7 @@ module _ (m : Meaning) (strips : ℕ) (t t' : Tables) (xs xs' : List Strip) (r :
       all_sent =
           ⊎_elim (λ (less : told.0.sent < strips). absurd (none_left less)) (λ (all : strips ≤ told.0.sent). omega (arith, stands.few n, told.2.sent)) (cases_lt told.0.sent strips)
 
+      -- what came out is what was let in
       all_out : out_by n acts ≡ rows n strips
       all_out =
           append_cancel_left (handed_out_since S n past) (out_by n acts) (rows n (sent_by n acts))
@@ -177,6 +178,7 @@ module _ (m : Meaning) (strips : ℕ) (t t' : Tables) (xs xs' : List Strip) (r :
           (told.2.out ∙ ap (λ l. counted (length l)) all_out ∙ omega (arith, length-rows n strips))
           (told.2.in_order ∙ ap (are_rows n 0) all_out ∙ rows_in_order n strips))
 
+    -- a stream that is not open has no hops
     hops_sent : (n : ℕ) → n < stream_count → (entry : Option OpenStream) → streams_in t n ≡ entry
         → sent_by n acts * length (route_of entry) ≡ strips * length (route_of entry)
     hops_sent n low None is = mul-zero (sent_by n acts) ∙ sym (mul-zero strips)

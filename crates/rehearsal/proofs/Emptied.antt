@@ -23,15 +23,17 @@ use Rattle.grid.specs.Views.{setting, view, outline}
 abbrev pub Empty : Grid Strip → Type 0
 Empty g = (link lane : ℕ) → g.contents link lane ≡ []
 
+-- a queue of which no item is counted
 none_in : (link : ℕ) (queue : Queue Strip) → queue_sum (one link) queue ≡ 0 → queue ≡ []
 none_in link [] none = refl
 none_in link (item ∷ queue) none = absurd (omega arith)
 
+-- none is counted where no lane contains one
 pub empty_counts : (S : Setting) (g : Grid Strip) → Empty g → item_count S g ≡ 0
 empty_counts S g empty = grid_sum_zero S one g.contents (λ link lane _. ap (queue_sum (one link)) (empty link lane))
 
 module _ (m : Meaning) (t : Tables) (xs : List Strip) (links : m.links ≡ t.lanes.size.links) where
-  -- none does where none is counted
+  -- and no lane contains one where none is counted
   pub counted_empty : item_count (setting m t (length xs)) (view t xs) ≡ 0 → Empty (view t xs)
   counted_empty none link lane =
       let h = hop_on link lane in
@@ -58,12 +60,14 @@ pub record Settled (S : Setting) (past : History Strip) : Type 0 where
   pub steps : steps_gone S past ≡ hops_let_in S past
 
 module _ (S : Setting) (past : History Strip) (keeps : Keeps S past) where
+  -- no lane will step exactly where no item is left
   pub rests_if_none : item_count S (after S past) ≡ 0 → NoLaneWillStep S (after S past)
   rests_if_none none = keeps.all_out.0 (omega (arith, keeps.items, none))
 
   pub none_if_rests : NoLaneWillStep S (after S past) → item_count S (after S past) ≡ 0
   none_if_rests rests = omega (arith, keeps.items, keeps.all_out.1 rests)
 
+  -- all came out then
   pub settled : NoLaneWillStep S (after S past) → Empty (after S past) → Settled S past
   settled rests empty = record {
     streams = λ n s is. (keeps.in_order n s is).all_when_none.1 (λ link lane. ap (of_stream n) (empty link lane));
@@ -71,12 +75,12 @@ module _ (S : Setting) (past : History Strip) (keeps : Keeps S past) where
   }
 
 -- on an empty grid with slots enough a strip of an open stream is let in
-starts : (S : Setting) (g : Grid Strip) (n : ℕ) (x : Strip) (s : OpenStream) (hops : List Hop) → Empty g → enough_slots S ≡ true → 1 ≤ S.depth → n < stream_count
+lets_in : (S : Setting) (g : Grid Strip) (n : ℕ) (x : Strip) (s : OpenStream) (hops : List Hop) → Empty g → enough_slots S ≡ true → 1 ≤ S.depth → n < stream_count
     → g.streams n ≡ Some s → s.hops ≡ hops → 1 ≤ length hops → Goes S g (sends n x)
 unfolding send_refusal
-starts S g n x s [] empty enough deep low is begins some = absurd (omega arith)
-starts S g n x s (h ∷ hops) empty enough deep low is begins some = rw (enough, lt-ltb n stream_count low, is, begins, empty h.link h.lane, lt-ltb 0 S.depth deep) refl
+lets_in S g n x s [] empty enough deep low is begins some = absurd (omega arith)
+lets_in S g n x s (h ∷ hops) empty enough deep low is begins some = rw (enough, lt-ltb n stream_count low, is, begins, empty h.link h.lane, lt-ltb 0 S.depth deep) refl
 
 pub empty_sends : (S : Setting) (g : Grid Strip) (n : ℕ) (x : Strip) (s : OpenStream) → Empty g → enough_slots S ≡ true → 1 ≤ S.depth → n < stream_count
     → g.streams n ≡ Some s → 1 ≤ length s.hops → Goes S g (sends n x)
-empty_sends S g n x s empty enough deep low is some = starts S g n x s s.hops empty enough deep low is refl some
+empty_sends S g n x s empty enough deep low is some = lets_in S g n x s s.hops empty enough deep low is refl some

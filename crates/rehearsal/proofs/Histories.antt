@@ -1,6 +1,6 @@
 -- The history of a rehearsal, and what its acts add to the counts of a run.
-use Rattle.std.proofs.Common.{◌≡◌, ℕ, suc, zero, ◌+◌, ◌<◌, Bool, true, false, cond, not, ◌&&◌, List, [], ◌∷◌, ◌++◌, Some, None, Option, ◌==◌, sym, refl, ap, ◌∙◌, ⊎_elim, arith, append-nil, append_assoc, add-zero, add-one}
-use Rattle.std.proofs.lemmas.Bool.{cases_Bool, cond_both, eqb-true}
+use Rattle.std.proofs.Common.{◌≡◌, ℕ, ◌+◌, ◌<◌, false, cond, List, [], ◌∷◌, ◌++◌, Some, None, Option, sym, refl, ap, ◌∙◌, arith, append-nil, append_assoc}
+use Rattle.std.proofs.lemmas.Bool.{cond_both}
 use Rattle.std.proofs.lemmas.Bool.Decides.{nat_tests}
 use Rattle.routes.specs.declared.declined.Declined.{Declined}
 use Rattle.routes.specs.declared.hop.Hop.{Hop}
@@ -8,29 +8,25 @@ use Rattle.routes.specs.Routes.{hop_on}
 use Rattle.routes.specs.Loads.{stream_count}
 use Rattle.model.specs.Grid.{Setting, Queue, Grid, has_room, route_of}
 use Rattle.model.specs.Sums.{of_stream}
-use Rattle.model.specs.Calls.{sends, steps, Answer, Outcome, unless_declined, enter, send_refusal, sending, forward, step_front, next_of, lane_refusal, stepping}
+use Rattle.model.specs.Calls.{sends, steps, Answer, Outcome, refuse, unless_declined, enter, send_refusal, sending, forward, step_front, next_of, lane_refusal, stepping}
 use Rattle.model.specs.Runs.{History, ◌▸◌, after, answer_to, is_declined, leaving, going, hops_entering, let_in_since, handed_out_since, steps_gone, hops_let_in}
 use Rattle.model.proofs.StreamItems.{of_stream-append}
 use Rattle.lanes.specs.declared.strip.Strip.{Strip}
 use Rattle.rehearsal.specs.Strips.{strip_of}
 use Rattle.rehearsal.specs.Acts.{Acts, start, sent, stepped, sent_by, handed_out, out_by, gone, steps_gone as steps_of}
+use Rattle.rehearsal.proofs.Rows.{rows, rows_sent}
 use Rattle.rehearsal.proofs.Weights.{weighed, weighed_none, weighed_stepped, weighed_sent, route_length}
 
 -- ---- what a send and a step leave
 
-unless_streams : (d : Option Declined) (g : Grid Strip) (o : Outcome Strip) → o.grid.streams ≡ g.streams → (unless_declined d g o).grid.streams ≡ g.streams
-unless_streams None g o stay = stay
-unless_streams (Some d) g o stay = refl
-
-unless_leaving : (d : Option Declined) (g : Grid Strip) (o : Outcome Strip) → leaving o.answer ≡ [] → leaving (unless_declined d g o).answer ≡ []
-unless_leaving None g o none = none
-unless_leaving (Some d) g o none = refl
-
-unless_goes : (d : Option Declined) (g : Grid Strip) (o : Outcome Strip) → is_declined (unless_declined d g o).answer ≡ false → d ≡ None
-unless_goes None g o goes = refl
-unless_goes (Some d) g o goes = cc
+-- what holds where a call is declined, and where nothing declines it
+unless_both : (P : Outcome Strip → Type 0) (d : Option Declined) (g : Grid Strip) (o : Outcome Strip) → ((e : Declined) → P (refuse e g)) → (d ≡ None → P o)
+    → P (unless_declined d g o)
+unless_both P None g o refused did = did refl
+unless_both P (Some d) g o refused did = refused d
 
 module _ (S : Setting) (g : Grid Strip) where
+  -- no open stream is touched where an item enters, and where a front goes on or out
   enter_streams : (hops : List Hop) (item : ℕ × Strip) → (enter S g hops item).streams ≡ g.streams
   enter_streams [] item = refl
   enter_streams (h ∷ hops) item = refl
@@ -43,44 +39,26 @@ module _ (S : Setting) (g : Grid Strip) where
   front_streams h next [] = refl
   front_streams h next (item ∷ rest) = forward_streams h item rest (next item)
 
-  -- neither opens or closes a stream
+  -- so neither opens or closes a stream
   send_streams : (n : ℕ) (x : Strip) → (sending S g n x).grid.streams ≡ g.streams
-  send_streams n x = unless_streams (send_refusal S g n) g _ (enter_streams (route_of (g.streams n)) (n, x))
+  send_streams n x = unless_both (λ o. o.grid.streams ≡ g.streams) (send_refusal S g n) g _ (λ _. refl) (λ _. enter_streams (route_of (g.streams n)) (n, x))
 
   step_streams : (link lane : ℕ) → (stepping S g link lane).grid.streams ≡ g.streams
   unfolding stepping
-  step_streams link lane = unless_streams (lane_refusal S (hop_on link lane)) g _ (front_streams (hop_on link lane) (next_of g link) (g.contents link lane))
+  step_streams link lane =
+      unless_both (λ o. o.grid.streams ≡ g.streams) (lane_refusal S (hop_on link lane)) g _ (λ _. refl)
+      (λ _. front_streams (hop_on link lane) (next_of g link) (g.contents link lane))
 
   -- a send hands nothing out, and one that goes is of a stream's number
   send_leaves : (n : ℕ) (x : Strip) → leaving (sending S g n x).answer ≡ []
-  send_leaves n x = unless_leaving (send_refusal S g n) g _ refl
+  send_leaves n x = unless_both (λ o. leaving o.answer ≡ []) (send_refusal S g n) g _ (λ _. refl) (λ _. refl)
 
   unrefused_low : (n : ℕ) → send_refusal S g n ≡ None → n < stream_count
   unfolding send_refusal
   unrefused_low n none = grind (arith, nat_tests)
 
   send_low : (n : ℕ) (x : Strip) → is_declined (sending S g n x).answer ≡ false → n < stream_count
-  send_low n x goes = unrefused_low n (unless_goes (send_refusal S g n) g _ goes)
-
--- ---- the strips of a stream in order
-
--- those of the first rows
-abbrev pub rows : ℕ → ℕ → List Strip
-rows n zero = []
-rows n (suc count) = rows n count ++ (strip_of n count ∷ [])
-
-rows_more : (n count : ℕ) → rows n (count + 1) ≡ rows n count ++ (strip_of n count ∷ [])
-rows_more n count = ap (rows n) (add-one count)
-
--- a strip that is let in is the next of its stream's, and no other stream's
-rows_sent : (declined : Bool) (n k : ℕ) (counts : ℕ → ℕ)
-    → rows n (counts n) ++ of_stream n (cond declined [] ((k, strip_of k (counts k)) ∷ [])) ≡ rows n (counts n + cond (not declined && k == n) 1 0)
-rows_sent true n k counts = append-nil (rows n (counts n)) ∙ ap (rows n) (sym (add-zero (counts n)))
-rows_sent false n k counts =
-    ⊎_elim
-    (λ (own : (k == n) ≡ true). rw (own, eqb-true k n own) (sym (rows_more n (counts n))))
-    (λ (other : (k == n) ≡ false). rw other (append-nil (rows n (counts n)) ∙ ap (rows n) (sym (add-zero (counts n)))))
-    (cases_Bool (k == n))
+  send_low n x = unless_both (λ o. is_declined o.answer ≡ false → n < stream_count) (send_refusal S g n) g _ (λ _ goes. cc) (λ none _. unrefused_low n none)
 
 -- ---- the history
 
@@ -131,6 +109,7 @@ module _ (S : Setting) (past : History Strip) where
       ∙ ap (λ l. let_in_since S n past ++ l) (rows_sent (is_declined a) n k (λ i. sent_by i acts))
   let_since n (stepped acts h a) answered = append-nil _ ∙ let_since n acts answered.0
 
+  -- a step that goes is counted by both
   pub steps_since : (acts : Acts) → Answered S past acts → steps_gone S (then_acts past acts) ≡ steps_gone S past + steps_of acts
   steps_since start answered = omega arith
   steps_since (sent acts k a) answered = omega (arith, steps_since acts answered.0)

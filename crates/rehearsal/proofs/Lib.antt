@@ -4,6 +4,7 @@ pub mod Tallies
 pub mod Acting
 pub mod Going
 pub mod Sweeping
+pub mod Rows
 pub mod Weights
 pub mod Histories
 pub mod Emptied

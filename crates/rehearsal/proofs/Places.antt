@@ -16,6 +16,7 @@ pub record SameButPlaces (o' o : Outcome Strip) : Type 0 where
   pub answer : o'.answer ≡ o.answer
   pub grid : o'.grid ≡ at_places o'.grid.places o.grid
 
+-- one of two outcomes
 either_same : (b : Bool) (o' o p' p : Outcome Strip) → SameButPlaces o' o → SameButPlaces p' p → SameButPlaces (cond b o' p') (cond b o p)
 either_same true o' o p' p one other = one
 either_same false o' o p' p one other = other
@@ -24,6 +25,7 @@ module _ (S : Setting) (places : ℕ → ℕ → ℕ) (g : Grid Strip) where
   abbrev g' : Grid Strip
   g' = at_places places g
 
+  -- a call that is declined, or not; an item that enters; a front that goes on or out
   unless_same : (d : Option Declined) (o' o : Outcome Strip) → SameButPlaces o' o → SameButPlaces (unless_declined d g' o') (unless_declined d g o)
   unless_same None o' o same = same
   unless_same (Some d) o' o same = record { answer = refl; grid = refl }
@@ -40,6 +42,7 @@ module _ (S : Setting) (places : ℕ → ℕ → ℕ) (g : Grid Strip) where
   front_same h next [] = record { answer = refl; grid = refl }
   front_same h next (item ∷ rest) = forward_same h item rest (next item)
 
+  -- a send, and a step
   pub sends_same : (n : ℕ) (x : Strip) → SameButPlaces (sending S g' n x) (sending S g n x)
   unfolding send_refusal
   sends_same n x = unless_same (send_refusal S g n) _ _ (record { answer = refl; grid = enter_same (route_of (g.streams n)) (n, x) })

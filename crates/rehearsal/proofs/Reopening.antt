@@ -19,6 +19,7 @@ use Rattle.grid.specs.Sound.{Sound, streams_below}
 use Rattle.grid.proofs.Sounding.{reopens}
 use Rattle.rehearsal.proofs.Emptied.{Empty}
 
+-- no stream, either way
 none_either : (b : Bool) → cond {A = Option OpenStream} b None None ≡ None
 none_either true = refl
 none_either false = refl
@@ -40,6 +41,7 @@ module _ (streams : ℕ → Option OpenStream) (k : ℕ) where
       (λ (other : (j == k) ≡ false). let same : nat_lt j (k + 1) ≡ nat_lt j k = grind (arith, nat_tests) in rw same refl)
       (cases_Bool (j == k)))
 
+-- what a call that nothing declines leaves
 unless_grid : (d : Option Declined) (g : Grid Strip) (o : Outcome Strip) → d ≡ None → (unless_declined d g o).grid ≡ o.grid
 unless_grid None g o none = refl
 unless_grid (Some d) g o none = cc
@@ -62,6 +64,7 @@ module _ (m : Meaning) (lanes depth capacity slots : ℕ) (streams : ℕ → Opt
       let above : nat_lt k k ≡ false = grind (arith, nat_tests) in
       rw (so_far, lt-ltb k stream_count low, above, reopens sound k s is low) refl
 
+  -- it is opened next, if there is one
   opened_more : (k : ℕ) (entry : Option OpenStream) → streams k ≡ entry → k < stream_count → Reopened S (streams_below k streams) → Reopened S (streams_below (k + 1) streams)
   opened_more k None is low so_far = record { past = so_far.past; streams_are = so_far.streams_are ∙ below_closed streams k is; empty = so_far.empty }
   opened_more k (Some s) is low so_far =
@@ -76,6 +79,7 @@ module _ (m : Meaning) (lanes depth capacity slots : ℕ) (streams : ℕ → Opt
   none_below : streams_below 0 streams ≡ λ _. None
   none_below = fun_ext (λ n. let test : nat_lt n 0 ≡ false = grind (arith, nat_tests) in rw test refl)
 
+  -- so all of them are, in rising number
   reopened_below : (k : ℕ) → k ≤ stream_count → Reopened S (streams_below k streams)
   reopened_below zero few = record { past = start; streams_are = sym none_below; empty = λ link lane. refl }
   reopened_below (suc k) few = rw (← add-one k) (opened_more k (streams k) refl (omega arith) (reopened_below k (omega arith)))

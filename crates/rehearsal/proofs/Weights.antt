@@ -17,6 +17,7 @@ use Rattle.rehearsal.specs.Acts.{Acts, start, sent, stepped, sent_by}
 
 -- ---- sums over the numbers below one
 
+-- of functions that are the same below it, with a factor, and of terms that are at most so large
 below_same : (n : ℕ) (f g : ℕ → ℕ) → ((k : ℕ) → k < n → f k ≡ g k) → sum_below n f ≡ sum_below n g
 below_same zero f g same = refl
 below_same (suc n) f g same = omega (arith, same n (omega arith), below_same n f g (λ k low. same k (omega arith)))
@@ -39,6 +40,7 @@ below_grown (suc n) k more f g each = let here = each n in let rest = below_grow
 
 -- ---- the hops of the open streams
 
+-- one number more, and all from one on
 hops_numbered : (n : ℕ) (s : Option OpenStream) (more : List (ℕ × OpenStream)) → hop_count (numbered n s ++ more) ≡ length (route_of s) + hop_count more
 hops_numbered n None more = omega arith
 hops_numbered n (Some s) more = omega (arith, sum_by-append (λ (r : ℕ × OpenStream). length r.1.hops) ((n, s) ∷ []) more)
@@ -59,6 +61,7 @@ module _ (streams : ℕ → Option OpenStream) where
 unfoldable pub weighed : (ℕ → ℕ) → Acts → ℕ
 weighed w acts = sum_below stream_count (λ n. sent_by n acts * w n)
 
+-- one strip more of stream k, if it is let in, weighs as much as that stream
 one_more : (count : ℕ) (declined : Bool) (w : ℕ → ℕ) (k j : ℕ) → (count + cond (not declined && k == j) 1 0) * w j ≡ count * w j + cond (k == j) (cond declined 0 (w k)) 0
 one_more count true w k j = cond_both (k == j) 0 0 (λ more. (count + 0) * w j ≡ count * w j + more) (λ _. simp add-zero) (λ _. simp add-zero)
 one_more count false w k j =
@@ -91,6 +94,7 @@ module _ (w : ℕ → ℕ) (acts : Acts) where
       (λ j. one_more (sent_by j acts) (is_declined a) w k j)
       ∙ ap (λ more. weighed w acts + more) (added_below k stream_count (w k) (is_declined a) low)
 
+  -- 64 streams with at most so many strips, each of at most so large a weight
   pub weighed_most : (strips most : ℕ) → ((n : ℕ) → sent_by n acts ≤ strips) → ((n : ℕ) → w n ≤ most) → weighed w acts ≤ stream_count * (strips * most)
   unfolding weighed
   weighed_most strips most few light = below_most stream_count (strips * most) (λ n. sent_by n acts * w n) (λ n. mul-le-mul (few n) (light n))

@@ -1,5 +1,5 @@
 -- A rehearsal that is made completes.
-use Rattle.std.proofs.Common.{◌≡◌, ℕ, ◌+◌, ◌*◌, ◌<◌, ◌≤◌, Bool, true, ◌⊎◌, List, ◌++◌, length, length-take, Some, None, Option, get_or, sym, refl, ap, subst, ◌∙◌, ⊎_elim, arith, mul-zero}
+use Rattle.std.proofs.Common.{◌≡◌, ℕ, ◌+◌, ◌*◌, ◌<◌, ◌≤◌, Bool, true, List, ◌++◌, length, length-take, Some, None, Option, get_or, sym, refl, ap, subst, ◌∙◌, ⊎_elim, arith, mul-zero}
 use Rattle.std.proofs.Math.Path.{fun_ext}
 use Rattle.std.proofs.lemmas.List.{append_cancel_left}
 use Rattle.std.proofs.lemmas.Bool.{cases_lt, le-leb}
@@ -23,8 +23,7 @@ use Rattle.rehearsal.specs.declared.tally.Tally.{Tally}
 use Rattle.rehearsal.specs.declared.rehearse.Rehearsal.{Rehearsal}
 use Rattle.rehearsal.specs.Strips.{strip_of, are_rows, counted}
 use Rattle.rehearsal.specs.Acts.{Acts, sent_by, out_by, gone, steps_gone as steps_of}
-use Rattle.rehearsal.specs.Rehearsals.{tally_at, Tells, Rests, Stands}
-use Rattle.rehearsal.specs.Completes.{Completes}
+use Rattle.rehearsal.specs.Rehearsals.{tally_at, Tells, Rests, Stands, Completes, Rehearses, rehearsal_refusal}
 use Rattle.rehearsal.proofs.Rows.{rows, length-rows, rows_in_order}
 use Rattle.rehearsal.proofs.Weights.{route_length, weighed, weighed_most, weighed_all}
 use Rattle.rehearsal.proofs.Histories.{then_acts, Answered, streams_stay, handed_since, let_since, steps_since, hops_since, gone_is}
@@ -114,7 +113,7 @@ module _ (m : Meaning) (strips : ℕ) (t t' : Tables) (xs xs' : List Strip) (r :
   few_steps = omega (arith, (ready.law run).hops, steps_since S past acts ends_so.1, hops_are, before.steps)
 
   -- so no rehearsal goes on until a number of 64 bits cannot count it
-  not_endless : strips < 65536 → 18446744073709551615 ≤ gone acts → ⊥
+  pub not_endless : strips < 65536 → 18446744073709551615 ≤ gone acts → ⊥
   not_endless narrow endless =
       let sends = weighed_most (λ _. 1) acts strips 1 stands.few (λ n. omega arith) in
       let hops = weighed_most (route_length (streams_in t)) acts strips 24 stands.few (λ n. route_short (get_or t.streams n None)) in
@@ -193,7 +192,9 @@ module _ (m : Meaning) (strips : ℕ) (t t' : Tables) (xs xs' : List Strip) (r :
           ∙ sym ahead;
     }
 
-  pub completes : strips < 65536 → r.ahead ≡ counted (strips * hop_count (open_streams (streams_in t)))
-      → Rests m t' xs' strips r ⊎ (18446744073709551615 ≤ gone acts) → Completes (streams_in t) strips r
-  completes narrow ahead ends =
-      ⊎_elim (λ (rests : Rests m t' xs' strips r). completes_at_rest rests narrow ahead) (λ (endless : 18446744073709551615 ≤ gone acts). absurd (not_endless narrow endless)) ends
+  -- nothing declines it
+  pub none_declines : rehearsal_refusal m t (length xs) ≡ None
+  none_declines = rw (enough, ready.none) refl
+
+  pub rehearses : strips < 65536 → r.ahead ≡ counted (strips * hop_count (open_streams (streams_in t))) → Rests m t' xs' strips r → Rehearses m strips t xs r t' xs'
+  rehearses narrow ahead rests = record { acts = acts; stands = stands; ahead = ahead; ends = rests; completes = completes_at_rest rests narrow ahead }

@@ -2,4 +2,3 @@ pub mod Strips
 pub mod Acts
 pub mod Rehearsals
 pub mod Totals
-pub mod Completes

@@ -1,5 +1,5 @@
 -- What a rehearsal comes to.
-use Rattle.std.specs.Prelude.{◌≡◌, ℕ, ◌+◌, ◌*◌, ◌<◌, ◌≤◌, Bool, cond, ◌&&◌, ◌⊎◌, List, [], ◌∷◌, length, Some, None, Ok, Err, Option, Result, ◌==◌, slice_index_or}
+use Rattle.std.specs.Prelude.{◌≡◌, ℕ, ◌+◌, ◌*◌, ◌<◌, ◌≤◌, Bool, true, cond, ◌&&◌, List, [], ◌∷◌, length, Some, None, Ok, Err, Option, Result, ◌==◌, slice_index_or}
 use Rattle.std.specs.Option.{option_map}
 use Rattle.refusals.specs.declared.refusal.Refusal.{Refusal}
 use Rattle.refusals.specs.declared.refusal.Refusal.TheVariants.{TooFewSlots, ItemsOnGrid}
@@ -86,13 +86,19 @@ pub record Idle (r : Rehearsal) (t : Tables) (xs : List Strip) (r' : Rehearsal) 
   pub tables : Same t t'
   pub slots : xs' ≡ xs
 
--- A rehearsal of so many strips is made of acts, and tells what they come to: it makes as many as it takes until nothing goes any more, or as many as
--- a number of 64 bits can count. Which stream sends first, and how often before the lanes step, is left open.
+-- Every open stream let in all its strips, and all of them came out, in order; and as many steps went as were known ahead.
+pub record Completes (streams : ℕ → Option OpenStream) (strips : ℕ) (r : Rehearsal) : Type 0 where
+  pub all : (n : ℕ) (s : OpenStream) → n < stream_count → streams n ≡ Some s → tally_at r n ≡ Some (record { sent = strips; out = strips; in_order = true })
+  pub steps : r.steps ≡ r.ahead
+
+-- A rehearsal of so many strips is made of acts, as many as it takes until nothing goes any more, and tells what they come to; and it completes. Which
+-- stream sends first, and how often before the lanes step, is left open.
 pub record Rehearses (m : Meaning) (strips : ℕ) (t : Tables) (xs : List Strip) (r : Rehearsal) (t' : Tables) (xs' : List Strip) : Type 0 where
   pub acts : Acts
   pub stands : Stands m strips t xs acts r t' xs'
   pub ahead : r.ahead ≡ counted (strips * hop_count (open_streams (streams_in t)))
-  pub ends : Rests m t' xs' strips r ⊎ (18446744073709551615 ≤ gone acts)
+  pub ends : Rests m t' xs' strips r
+  pub completes : Completes (streams_in t) strips r
 
 -- what declines a rehearsal: too few slots, or items on the grid
 abbrev pub rehearsal_refusal : Meaning → Tables → ℕ → Option Refusal

@@ -1,7 +1,7 @@
-use Rattle.std.proofs.Common.{◌≤◌, length, rules, arith, refl, inl, inr, sym, subst, ◌∙◌}
+use Rattle.std.proofs.Common.{◌≤◌, length, rules, arith, refl, subst, ◌∙◌}
 use Rattle.lanes.specs.Sizes.{slot_count}
 use Rattle.rehearsal.specs.Acts.{start}
-use Rattle.rehearsal.proofs.Completing.{completes}
+use Rattle.rehearsal.proofs.Completing.{not_endless, none_declines, rehearses}
 use Rattle.rehearsal.proofs.rehearse.rehearse.Goals as goal
 
 pub loop-turn-init : goal.loop-turn-init
@@ -12,7 +12,7 @@ loop-turn-init g c =
       ready = record {
         links = c.args.grid.now.fits;
         enough = subst (λ s. slot_count s ≤ length c.args.slots.now) c.size.ensures (rw c.slots.ensures at c.if-slots.false);
-        none = sym c.items.ensures ∙ c.if-items-ne0.false;
+        none = omega arith;
         sound = c.args.grid.now.sound;
         law = c.law_of_every_run.ensures _ (g.met.L.Layout.lawful c.args.grid.now.layout) _ _ _ _ c.args.grid.now.tables.lanes.size.deep.0;
       };
@@ -27,16 +27,17 @@ loop-turn-init g c =
       );
     }
 
-pub returns-after-loop-turn-clause-complete : goal.returns-after-loop-turn-clause-complete
-returns-after-loop-turn-clause-complete g c =
+pub returns-after-loop-turn-clause-made : goal.returns-after-loop-turn-clause-made
+returns-after-loop-turn-clause-made g c =
     let begun = c.loop-turn.invariant in
-    completes _ c.args.strips c.args.grid.now.tables _ c.args.slots.now _ c.loop-turn.rehearsal begun.acts.0 begun.acts.1 begun.ready (omega arith) begun.ahead
-    (inr (omega (arith, begun.acts.2)))
+    absurd (not_endless _ c.args.strips c.args.grid.now.tables _ c.args.slots.now _ c.loop-turn.rehearsal begun.acts.0 begun.acts.1 begun.ready (omega arith) (omega (arith, begun.acts.2)))
 
-pub returns-then-not-turn-clause-complete : goal.returns-then-not-turn-clause-complete
-returns-then-not-turn-clause-complete g c =
+pub returns-then-not-turn-clause-made : goal.returns-then-not-turn-clause-made
+returns-then-not-turn-clause-made g c =
     let begun = c.loop-turn.invariant in
     let turn = c.turn.ensures in
-    let acts = (rw begun.layout at turn.on).stands c.args.grid.now.tables c.args.slots.now begun.acts.0 begun.acts.1 in
-    completes _ c.args.strips c.args.grid.now.tables _ c.args.slots.now _ c.turn.new.self acts.0 acts.1 begun.ready (omega arith) (turn.on.ahead ∙ begun.ahead)
-    (inl (rw begun.layout at (turn.rests c.if-not-turn.true)))
+    let acts = (rw begun.layout at turn.on).stands c.args.grid.now.tables c.args.slots.now begun.acts.0 begun.acts.1 in (
+      none_declines _ c.args.strips c.args.grid.now.tables _ c.args.slots.now _ c.turn.new.self acts.0 acts.1 begun.ready,
+      rehearses _ c.args.strips c.args.grid.now.tables _ c.args.slots.now _ c.turn.new.self acts.0 acts.1 begun.ready (omega arith) (turn.on.ahead ∙ begun.ahead)
+          (rw begun.layout at (turn.rests c.if-not-turn.true)),
+    )

@@ -1,13 +1,24 @@
 // The loads of the links, as a picture of the grid.
+ghost use Rattle.std.specs.Prelude.{ℕ, ◌<◌, MatchOption};
+ghost use Rattle.layouts.specs.Mesh.{meaning_of};
+ghost use Rattle.planner.specs.Links.{Leads};
+
 use layouts::layout::Layout;
 use routes::load::link_load;
 use session::session::{GridOnMesh, Session};
 use std::io;
 
-// The link that leads from one tile to another.
-fn link_between(shown: &GridOnMesh<'_>, from: u16, to: u16) -> Option<u16> {
+// The first link that leads from one tile to another, if there is one.
+fn link_between(shown: &GridOnMesh<'_>, from: u16, to: u16) -> Option<u16>
+    ensures { MatchOption result ((k : ℕ) → k < (meaning_of shown.now.grid.now.layout).links → Leads (meaning_of shown.now.grid.now.layout) from to k → ⊥) (λ link. (link < (meaning_of shown.now.grid.now.layout).links) × Leads (meaning_of shown.now.grid.now.layout) from to link) }
+{
     let mesh = shown.grid.layout();
-    (0..mesh.links()).find(|link| mesh.start(*link) == from && mesh.end(*link) == to)
+    for link in 0..mesh.links() {
+        if mesh.start(link) == from && mesh.end(link) == to {
+            return Some(link);
+        }
+    }
+    None
 }
 
 // Prints the link from one tile to another and its load, this in so many columns.

@@ -10,7 +10,7 @@ use Rattle.layouts.specs.declared.link.MeshLink.{MeshLink}
 use Rattle.layouts.specs.declared.link.Span.{Span}
 use Rattle.layouts.specs.declared.turn.Turn.TheVariants.{Never, Free, Climb}
 use Rattle.layouts.specs.declared.turn_rule.TurnRule.{TurnRule}
-use Rattle.layouts.specs.Layout.{Lawful, Outside}
+use Rattle.layouts.specs.Layout.{topology_in, turns_in, WaysLaw, TurnLaw, Lawful, NoTiles, NoTurns}
 use Rattle.layouts.specs.Links.{InRange, tile, column, row, Leaves, Inside, start_of, end_of, span_of, link_count, link_at, span_at}
 use Rattle.layouts.specs.Rules.{barred, height_of, turn_of}
 use Rattle.layouts.specs.Mesh.{start_at, end_at, turn_at, height_at, span_height, mesh_meaning}
@@ -92,6 +92,12 @@ module _ (rule : TurnRule) (w h : ℕ) (r : InRange w h) where
     rises = λ a b. rises_at a b (link_at w h a) (link_at w h b) (found w h r a) (found w h r b);
   }
 
+  pub mesh_ways : WaysLaw (topology_in (mesh_meaning rule w h))
+  mesh_ways = record { sized = mesh_lawful.sized; joins = mesh_lawful.joins }
+
+  pub mesh_turns : TurnLaw (topology_in (mesh_meaning rule w h)) (turns_in (mesh_meaning rule w h))
+  mesh_turns = record { meets = mesh_lawful.meets; rises = mesh_lawful.rises }
+
   -- no link has a number from the count on
   none_from : (k : ℕ) (o : Option MeshLink) → Found w h k o → link_count w h ≤ k → option_map (span_of w) o ≡ None
   none_from k None f l = refl
@@ -101,12 +107,14 @@ module _ (rule : TurnRule) (w h : ℕ) (r : InRange w h) where
   turn_to_none None = refl
   turn_to_none (Some p) = refl
 
-  pub mesh_outside : Outside (mesh_meaning rule w h)
-  mesh_outside =
-      let none : (k : ℕ) → link_count w h ≤ k → span_at w h k ≡ None = λ k. none_from k (link_at w h k) (found w h r k) in
-      record {
-        no_start = λ k l. ap start_at (none k l);
-        no_end = λ k l. ap end_at (none k l);
-        no_turn_from = λ a b l. ap (λ p. turn_at rule p (span_at w h b)) (none a l);
-        no_turn_to = λ a b l. ap (turn_at rule (span_at w h a)) (none b l) ∙ turn_to_none (span_at w h a);
-      }
+  none_at : (k : ℕ) → link_count w h ≤ k → span_at w h k ≡ None
+  none_at k = none_from k (link_at w h k) (found w h r k)
+
+  pub mesh_no_tiles : NoTiles (topology_in (mesh_meaning rule w h))
+  mesh_no_tiles = record { no_start = λ k l. ap start_at (none_at k l); no_end = λ k l. ap end_at (none_at k l) }
+
+  pub mesh_no_turns : NoTurns (topology_in (mesh_meaning rule w h)) (turns_in (mesh_meaning rule w h))
+  mesh_no_turns = record {
+    no_turn_from = λ a b l. ap (λ p. turn_at rule p (span_at w h b)) (none_at a l);
+    no_turn_to = λ a b l. ap (turn_at rule (span_at w h a)) (none_at b l) ∙ turn_to_none (span_at w h a);
+  }

@@ -2,12 +2,13 @@
 #![tactic(auto)]
 
 pub mod direction;
-pub mod layout;
 mod link;
 pub mod mesh;
 mod numbering;
+pub mod rules;
 mod size;
 #[cfg(test)]
 mod tests;
 pub mod turn;
 pub mod turn_rule;
+pub mod ways;

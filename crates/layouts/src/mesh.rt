@@ -3,12 +3,14 @@ ghost use Rattle.std.specs.Prelude.{◌≡◌, IfOk, MatchResult};
 ghost use Rattle.refusals.specs.declared.refusal.Refusal.TheVariants.{MeshSize};
 ghost use Rattle.layouts.specs.Links.{InRange};
 ghost use Rattle.layouts.specs.Mesh.{IsMesh, meaning_of, mesh_meaning};
-ghost use Rattle.layouts.specs.Law.{mesh_lawful, mesh_outside};
+ghost use Rattle.layouts.specs.Law.{mesh_ways, mesh_turns, mesh_no_tiles, mesh_no_turns};
+ghost use Rattle.layouts.specs.Layout.{topology_in, turns_in};
 
-use crate::layout::Layout;
+use crate::rules::Rules;
 use crate::size::Size;
 use crate::turn::Turn;
 use crate::turn_rule::TurnRule;
+use crate::ways::Ways;
 use refusals::refusal::Refusal;
 
 /// A grid of tiles in rows and columns, with a link each way between neighbours, under a turn rule.
@@ -32,12 +34,12 @@ impl Mesh {
     }
 }
 
-impl Layout for Mesh {
-    ghost meaning = { meaning_of };
+impl Ways for Mesh {
+    ghost topology = { λ m. topology_in (meaning_of m) };
 
-    ghost lawful = { λ m. mesh_lawful m.rule _ _ m.size.ok };
+    ghost ways_law = { λ m. mesh_ways m.rule _ _ m.size.ok };
 
-    ghost outside = { λ m. mesh_outside m.rule _ _ m.size.ok };
+    ghost no_tiles = { λ m. mesh_no_tiles m.rule _ _ m.size.ok };
 
     fn tiles(&self) -> u16 {
         self.size.tiles()
@@ -54,6 +56,14 @@ impl Layout for Mesh {
     fn end(&self, link: u16) -> u16 {
         self.size.span(link).map_or(255, |span| span.end)
     }
+}
+
+impl Rules for Mesh {
+    ghost turns = { λ m. turns_in (meaning_of m) };
+
+    ghost turn_law = { λ m. mesh_turns m.rule _ _ m.size.ok };
+
+    ghost no_turns = { λ m. mesh_no_turns m.rule _ _ m.size.ok };
 
     fn turn(&self, a: u16, b: u16) -> Turn {
         match (self.size.span(a), self.size.span(b)) {

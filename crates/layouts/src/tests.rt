@@ -1,9 +1,10 @@
 // Meshes against tables that were worked out by hand.
-use crate::layout::Layout;
 use crate::mesh::Mesh;
+use crate::rules::Rules;
 use crate::turn::Turn;
 use crate::turn::Turn::{Climb, Free, Never};
 use crate::turn_rule::TurnRule;
+use crate::ways::Ways;
 use refusals::refusal::Refusal;
 use std::process::Abort;
 use std::test::Fail;

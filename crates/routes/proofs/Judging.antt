@@ -18,14 +18,14 @@ use Rattle.routes.proofs.HopLists.{not_used, used_nowhere}
 use Rattle.routes.proofs.Firsts.{first_none, first_all, first_below_none, none_below}
 
 -- A check that declines nothing is passed.
-passed : (test : Bool) (r : Refusal) → unless test r ≡ None → test ≡ true
+pub passed : (test : Bool) (r : Refusal) → unless test r ≡ None → test ≡ true
 passed true r e = refl
 passed false r e = cc
 
 passes : (test : Bool) (r : Refusal) → test ≡ true → unless test r ≡ None
 passes test r e = ap (λ t. unless t r) e
 
-nowhere : (r : Refusal) (hop : Option ℕ) → at_hop r hop ≡ None → hop ≡ None
+pub nowhere : (r : Refusal) (hop : Option ℕ) → at_hop r hop ≡ None → hop ≡ None
 nowhere r None e = refl
 nowhere r (Some k) e = cc
 
@@ -99,7 +99,7 @@ module _ (t : Terms) (q : Request) (hops : List Hop) where
   lane_falls g h = not (lanes_fit (turn_at g h) g.lane h.lane)
 
   abbrev all_checks : List (Option Declined)
-  all_checks = field_checks t.layout q ++ route_checks t q hops
+  all_checks = field_checks t.layout.tiles q ++ route_checks t q hops
 
   abbrev NoneDeclines : List Check → Type 0
   NoneDeclines checks = All (λ o. o ≡ None) (map (hop_check t q hops) checks)

@@ -29,14 +29,14 @@ module _ (t : Terms) (q : Request) (hops : List Hop) where
   abbrev pub told_by : List Check → Option Declined
   told_by checks = first_of (map (hop_check t q hops) checks)
 
-  after_fields : (o : Option Declined) → first_of (field_checks t.layout q) ≡ o → judgement t q hops ≡ option_or o (first_of (route_checks t q hops))
+  after_fields : (o : Option Declined) → first_of (field_checks t.layout.tiles q) ≡ o → judgement t q hops ≡ option_or o (first_of (route_checks t q hops))
   unfolding judgement
-  after_fields o e = first_append (field_checks t.layout q) (route_checks t q hops) ∙ ap (λ p. option_or p (first_of (route_checks t q hops))) e
+  after_fields o e = first_append (field_checks t.layout.tiles q) (route_checks t q hops) ∙ ap (λ p. option_or p (first_of (route_checks t q hops))) e
 
-  pub fields_declined : (d : Declined) → first_of (field_checks t.layout q) ≡ Some d → judgement t q hops ≡ Some d
+  pub fields_declined : (d : Declined) → first_of (field_checks t.layout.tiles q) ≡ Some d → judgement t q hops ≡ Some d
   fields_declined d e = after_fields (Some d) e
 
-  module _ (fields : first_of (field_checks t.layout q) ≡ None) where
+  module _ (fields : first_of (field_checks t.layout.tiles q) ≡ None) where
     by_count : (fits : Bool) → count_fits hops ≡ fits → judgement t q hops ≡ option_or (unless fits HopCount) (told_by hop_checks)
     by_count fits e = after_fields None fields ∙ ap (λ b. option_or (unless b HopCount) (told_by hop_checks)) e
 

@@ -42,10 +42,10 @@ unless passed refusal = cond passed None (Some (no_hop refusal))
 abbrev pub at_hop : Refusal → Option ℕ → Option Declined
 at_hop refusal hop = option_map (λ k. record { refusal = refusal; hop = Some k }) hop
 
--- what is asked of the fields of a stream
-abbrev pub field_checks : Meaning → Request → List (Option Declined)
-field_checks m q =
-    unless (nat_lt q.source m.tiles && (nat_lt q.target m.tiles && not (q.source == q.target))) BadEndpoints
+-- what is asked of the fields of a stream on ways of so many tiles
+abbrev pub field_checks : ℕ → Request → List (Option Declined)
+field_checks tiles q =
+    unless (nat_lt q.source tiles && (nat_lt q.target tiles && not (q.source == q.target))) BadEndpoints
     ∷ (unless (nat_lt 0 q.demand) ZeroAmount ∷ [])
 
 -- the turn is *never*
@@ -98,7 +98,7 @@ route_checks t q hops = unless (count_fits hops) HopCount ∷ map (hop_check t q
 
 -- the first check that declines a stream of these fields and hops, if any does
 unfoldable pub judgement : Terms → Request → List Hop → Option Declined
-judgement t q hops = first_of (field_checks t.layout q ++ route_checks t q hops)
+judgement t q hops = first_of (field_checks t.layout.tiles q ++ route_checks t q hops)
 
 -- the answer of a call that a check may decline
 abbrev pub verdict : Option Declined → Result (Unit {0}) Declined

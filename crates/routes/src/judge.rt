@@ -1,5 +1,6 @@
 // The judgement of a route.
 ghost use Rattle.std.specs.Prelude.{◌≡◌, ◌<◌, length};
+ghost use Rattle.layouts.specs.Layout.{meaning_by};
 ghost use Rattle.routes.specs.Firsts.{first_of};
 ghost use Rattle.routes.specs.Checks.{terms_of, field_checks, lanes_fit, fails, verdict};
 ghost use Rattle.routes.specs.Acceptable.{Judges};
@@ -10,11 +11,12 @@ use crate::hop::Hop;
 use crate::load::link_load;
 use crate::route_hops::count_fits;
 use crate::stream::{Request, Stream, uses_link};
-use layouts::layout::Layout;
+use layouts::rules::Rules;
 use layouts::turn::Turn;
+use layouts::ways::Ways;
 use refusals::refusal::Refusal;
 
-/// What routes are judged by, next to the layout.
+/// What routes are judged by, next to the ways that they lie on.
 #[derive(Clone, Copy)]
 pub struct Limits<'a> {
     /// How many lanes each link has.
@@ -36,7 +38,7 @@ fn lanes_fit(turn: Turn, from: u8, to: u8) -> bool
 }
 
 // Whether hop k fails a check.
-fn fails<L: Layout>(
+fn fails<L: Rules>(
     layout: &L,
     limits: Limits<'_>,
     request: Request,
@@ -45,7 +47,8 @@ fn fails<L: Layout>(
     k: usize,
 ) -> bool
     requires { k < length hops.now }
-    ensures { result ≡ fails (terms_of (L.meaning layout.now) limits.entry) request hops.now check k }
+    ensures { result ≡ fails (terms_of (meaning_by L.topology L.turns layout.now) limits.entry)
+        request hops.now check k }
 {
     let hop = hops[k];
     // A match and not a closure for each check: which checks there are and in which order is then a value, `Check::all`.
@@ -67,12 +70,12 @@ fn fails<L: Layout>(
     }
 }
 
-/// Judges the fields of a stream. Refuses a source or a target that is no tile of the layout, and both the same, by
+/// Judges the fields of a stream. Refuses a source or a target that is no tile of the ways, and both the same, by
 /// `BadEndpoints`, and then a demand of 0 by `ZeroAmount`.
-pub fn judge_fields<L: Layout>(layout: &L, request: Request) -> Result<(), Declined>
-    ensures { result ≡ verdict (first_of (field_checks (L.meaning layout.now) request)) }
+pub fn judge_fields<W: Ways>(ways: &W, request: Request) -> Result<(), Declined>
+    ensures { result ≡ verdict (first_of (field_checks (W.topology ways.now).tiles request)) }
 {
-    let tiles = layout.tiles();
+    let tiles = ways.tiles();
     if request.source >= tiles || request.target >= tiles || request.source == request.target {
         return Err(Refusal::BadEndpoints.into());
     }
@@ -97,13 +100,14 @@ pub fn judge_fields<L: Layout>(layout: &L, request: Request) -> Result<(), Decli
 ///
 /// From `OffGrid` on, each is looked for over the whole route ahead of the next, and is told with the first hop that is to
 /// blame: of two hops in turn the second, of a link that stands twice the later hop.
-pub fn judge<L: Layout>(
+pub fn judge<L: Rules>(
     layout: &L,
     limits: Limits<'_>,
     request: Request,
     hops: &[Hop],
 ) -> Result<(), Declined>
-    ensures { Judges (terms_of (L.meaning layout.now) limits.entry) request hops.now result }
+    ensures { Judges (terms_of (meaning_by L.topology L.turns layout.now) limits.entry)
+        request hops.now result }
 {
     judge_fields(layout, request)?;
     if !count_fits(hops) {

@@ -1,3 +1,4 @@
+use Rattle.layouts.specs.Layout.{meaning_by}
 use Rattle.std.proofs.Common.{◌≡◌, ℕ, Bool, true, false, length, get_or, Some, None, Err, sym, refl, ap, ◌∙◌, rules}
 use Rattle.std.proofs.lemmas.Iterator.{first_from_Range}
 use Rattle.std.proofs.lemmas.Result.{err_from_is_err_and}
@@ -13,7 +14,7 @@ use Rattle.routes.proofs.judge.judge.Goals.{After-find}
 
 -- whether a hop fails the check at hand
 abbrev test : (g : given.Over) → After-find g → ℕ → Bool
-test g c = fails (terms_of (g.L.Layout.meaning c.args.layout.now) c.args.limits) c.args.request c.args.hops.now (get_or c.all-check-items.result c.loop-check.check-index OnGrid)
+test g c = fails (terms_of (meaning_by g.L.Ways.topology g.L.Rules.turns c.args.layout.now) c.args.limits) c.args.request c.args.hops.now (get_or c.all-check-items.result c.loop-check.check-index OnGrid)
 
 -- the search stops at the first hop that does
 searched : (g : given.Over) (c : After-find g) → c.find.result ≡ first_below (length c.args.hops.now) (test g c)
@@ -33,7 +34,7 @@ returns-then-not-count_fits g c =
 pub loop-check-init : goal.loop-check-init
 loop-check-init g c =
     hop_by_hop _ _ _ (passed_by _ c.in_ok-judge_fields.ensures) (sym c.if-not-count_fits.ensures)
-    ∙ ap (told_by (terms_of (g.L.Layout.meaning c.args.layout.now) c.args.limits) c.args.request c.args.hops.now) (sym c.all-check-items.ensures)
+    ∙ ap (told_by (terms_of (meaning_by g.L.Ways.topology g.L.Rules.turns c.args.layout.now) c.args.limits) c.args.request c.args.hops.now) (sym c.all-check-items.ensures)
 
 pub returns-in-Some : goal.returns-in-Some
 returns-in-Some g c =

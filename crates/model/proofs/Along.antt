@@ -7,14 +7,11 @@ use Rattle.routes.specs.declared.hop.Hop.{Hop}
 use Rattle.routes.specs.Routes.{uses, hop_on}
 use Rattle.model.specs.Grid.{Queue, put, hops_from}
 use Rattle.model.specs.Sums.{of_stream}
+use Rattle.model.specs.Waiting.{along, own}
 use Rattle.model.proofs.Puts.{put_same, pushed}
-use Rattle.model.proofs.Routes.{Apart, hops_from_inherits, unused_from, hops_from_here, hops_from_after}
+use Rattle.model.specs.Safe.{Apart}
+use Rattle.model.proofs.Routes.{hops_from_inherits, unused_from, hops_from_here, hops_from_after}
 use Rattle.model.proofs.StreamItems.{of_stream-append}
-
--- the lists of the lanes of a route, put together
-abbrev pub along : {T : Type 0} → (ℕ → ℕ → List T) → List Hop → List T
-along lists [] = []
-along lists (h ∷ hops) = along lists hops ++ lists h.link h.lane
 
 pub along_none : {T : Type 0} (lists : ℕ → ℕ → List T) (hops : List Hop) → ((link lane : ℕ) → lists link lane ≡ []) → along lists hops ≡ []
 along_none lists [] none = refl
@@ -39,10 +36,6 @@ module _ {T : Type 0} (old new : ℕ → ℕ → List T) where
       (same h.link h.lane (rw after (unused_from h.link link hops apart.0)))
       ∙ append_assoc gone _ _)
       (cases_eq h.link link)
-
--- the items of one stream, by link and lane
-abbrev pub own : {T : Type 0} → ℕ → (ℕ → ℕ → Queue T) → ℕ → ℕ → List T
-own n contents link lane = of_stream n (contents link lane)
 
 module _ {T : Type 0} (n : ℕ) (contents : ℕ → ℕ → Queue T) where
   along_put : (link lane : ℕ) (queue : Queue T) (hops : List Hop) → uses link hops ≡ false

@@ -7,14 +7,14 @@ use Rattle.model.specs.Grid.{Setting, Grid, route_of}
 use Rattle.model.specs.Sums.{one_of, item_count_of}
 use Rattle.model.specs.Calls.{closes, Outcome, close_refusal}
 use Rattle.model.specs.Runs.{is_declined}
+use Rattle.model.specs.Waiting.{along, own, waiting}
 use Rattle.model.specs.Law.{Goes, NoneOnGrid}
 use Rattle.model.proofs.Routes.{hops_from_inherits}
 use Rattle.model.proofs.GridSums.{grid_sum_zero}
 use Rattle.model.proofs.StreamItems.{of_stream_count}
 use Rattle.model.proofs.Kept.{Kept, none_on_grid, counted_none}
 use Rattle.model.proofs.Does.{Does, refused, closed, does}
-use Rattle.model.proofs.Along.{along, along_none, own}
-use Rattle.model.proofs.Order.{waiting}
+use Rattle.model.proofs.Along.{along_none}
 
 module _ {T : Type 0} (S : Setting) (g : Grid T) (kept : Kept S g) (n : ℕ) where
   waiting_none : waiting n g ≡ [] → NoneOnGrid g n
@@ -28,7 +28,7 @@ module _ {T : Type 0} (S : Setting) (g : Grid T) (kept : Kept S g) (n : ℕ) whe
 
   closes_none : {o : Outcome T} → Does S g (closes n) o → is_declined o.answer ≡ false → NoneOnGrid g n
   closes_none refused goes = absurd (true≢false goes)
-  closes_none (closed count) goes = counted_none S g kept n count
+  closes_none (closed low count) goes = counted_none S g kept n count
 
   none_closes : is_some (g.streams n) ≡ true → NoneOnGrid g n → Goes S g (closes n)
   unfolding close_refusal

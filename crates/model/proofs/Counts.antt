@@ -42,7 +42,7 @@ module _ {T : Type 0} (S : Setting) (g : Grid T) (kept : Kept S g) where
       → hops_ahead S o.grid + going c o.answer ≡ hops_ahead S g + hops_entering g c o.answer
   hops_next refused = grind arith
   hops_next (opened low not_open judged) = ap (λ k. k + 0) (ahead_assign _ _ (closed_none S g kept _ not_open))
-  hops_next (closed count) = ap (λ k. k + 0) (ahead_assign _ _ (counted_none S g kept _ count))
+  hops_next (closed low count) = ap (λ k. k + 0) (ahead_assign _ _ (counted_none S g kept _ count))
   hops_next (sent {n} {x} first rest slots route) =
       let on = first_on_route g.streams n first rest route in
       omega (arith, sent_sum (ahead g.streams) first rest (n, x) route, ap length route, ap length on)
@@ -53,7 +53,7 @@ module _ {T : Type 0} (S : Setting) (g : Grid T) (kept : Kept S g) where
       → item_count S o.grid + length (leaving o.answer) ≡ item_count S g + length (entering c o.answer)
   items_next refused = grind arith
   items_next (opened low not_open judged) = refl
-  items_next (closed count) = refl
+  items_next (closed low count) = refl
   items_next (sent {n} {x} first rest slots route) = omega (arith, sent_sum one first rest (n, x) route)
   items_next (passed front) = omega (arith, passed_sum one front)
   items_next (left front) = omega (arith, left_sum one front)

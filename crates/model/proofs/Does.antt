@@ -18,7 +18,7 @@ pub data Does {T : Type 0} (S : Setting) (g : Grid T) : Call T → Outcome T →
   refused : {c : Call T} {d : Declined} → Does S g c (record { answer = declined d; grid = g })
   opened : {n : ℕ} {q : Request} {hops : List Hop} → n < stream_count → is_some (g.streams n) ≡ false → S.judge g.streams q hops ≡ None
       → Does S g (opens n q hops) (record { answer = done; grid = with_stream g n (Some (record { request = q; hops = hops })) })
-  closed : {n : ℕ} → item_count_of S g n ≡ 0 → Does S g (closes n) (record { answer = done; grid = with_stream g n None })
+  closed : {n : ℕ} → n < stream_count → item_count_of S g n ≡ 0 → Does S g (closes n) (record { answer = done; grid = with_stream g n None })
   sent : {n : ℕ} {x : T} (first : Hop) (rest : List Hop) → enough_slots S ≡ true → route_of (g.streams n) ≡ first ∷ rest
       → Does S g (sends n x) (record { answer = done; grid = enqueue S g first (n, x) })
   passed : {link lane : ℕ} {item : ℕ × T} {queue : Queue T} {next : Hop} {rest : List Hop} → Front g link lane item queue (next ∷ rest)
@@ -52,7 +52,7 @@ module _ {T : Type 0} (S : Setting) (g : Grid T) (kept : Kept S g) where
   unfolding open_refusal close_refusal send_refusal stepping
   does (opens n q hops) =
       unless_declined_lem (open_refusal S g n q hops) _ (λ none. opened (grind (arith, nat_tests)) (grind (arith, nat_tests)) (grind (arith, nat_tests)))
-  does (closes n) = unless_declined_lem (close_refusal S g n) _ (λ none. closed (grind (arith, nat_tests)))
+  does (closes n) = unless_declined_lem (close_refusal S g n) _ (λ none. closed (grind (arith, nat_tests)) (grind (arith, nat_tests)))
   does (sends n x) =
       unless_declined_lem (send_refusal S g n) _ (λ none. does_enter n x (route_of (g.streams n)) refl (grind (arith, nat_tests)) (grind (arith, nat_tests)))
   does (steps link lane) = unless_declined_lem _ _ (λ _. does_front link lane (g.contents link lane) refl)

@@ -6,7 +6,7 @@ use Rattle.routes.specs.Routes.{hop_on}
 use Rattle.model.specs.Grid.{Setting, Queue, put}
 use Rattle.model.specs.Sums.{queue_sum, grid_sum}
 use Rattle.model.proofs.Puts.{put_same, put_other, pushed}
-use Rattle.model.proofs.Routes.{OnGrid}
+use Rattle.model.specs.Safe.{OnGrid}
 use Rattle.model.proofs.LaneSums.{sum_of_lanes_zero, sum_of_lanes_at, sum_of_lanes_same, sum_of_lanes_change}
 
 queue_sum-append : {T : Type 0} (cost : (ℕ × T) → ℕ) (front back : Queue T) → queue_sum cost (front ++ back) ≡ queue_sum cost front + queue_sum cost back

@@ -9,7 +9,8 @@ use Rattle.model.specs.Grid.{Setting, Queue, Grid, blank, assign, put, with_stre
 use Rattle.model.specs.Calls.{Call, Outcome}
 use Rattle.model.specs.Law.{NoneOnGrid}
 use Rattle.model.proofs.Puts.{assign_other, assign_each, put_each, pushed}
-use Rattle.model.proofs.Routes.{Proper, proper_none}
+use Rattle.model.specs.Safe.{Proper}
+use Rattle.model.proofs.Routes.{proper_none}
 use Rattle.model.proofs.StreamItems.{all_others}
 use Rattle.model.proofs.Kept.{first_on_route, Placed, Kept, all_placed, next_on_route, closed_none, counted_none}
 use Rattle.model.proofs.Does.{Does, refused, opened, closed, sent, passed, left}
@@ -57,7 +58,7 @@ module _ {T : Type 0} (S : Setting) (g : Grid T) (kept : Kept S g) where
   pub kept_next : {c : Call T} {o : Outcome T} → Does S g c o → ((n : ℕ) → Proper S (route_of (o.grid.streams n))) → Kept S o.grid
   kept_next refused routes = kept
   kept_next (opened low not_open judged) routes = kept_stream _ _ (closed_none S g kept _ not_open) (λ _. low) routes
-  kept_next (closed count) routes = kept_stream _ _ (counted_none S g kept _ count) (λ is_open. grind arith) routes
+  kept_next (closed low count) routes = kept_stream _ _ (counted_none S g kept _ count) (λ is_open. grind arith) routes
   kept_next (sent {n} first rest slots route) routes =
       let on = first_on_route g.streams n first rest route in
       kept_contents _ _ (placed_push S g.streams g.contents first _ (record { slots = slots; rest = rest; on = on }) kept.placed)

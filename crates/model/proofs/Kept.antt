@@ -10,7 +10,8 @@ use Rattle.routes.specs.Loads.{stream_count}
 use Rattle.model.specs.Grid.{Setting, Queue, Grid, enough_slots, route_of, hops_from}
 use Rattle.model.specs.Sums.{of_stream, one_of, item_count_of}
 use Rattle.model.specs.Law.{NoneOnGrid}
-use Rattle.model.proofs.Routes.{Proper, proper_from, hops_from_here, hops_from_next}
+use Rattle.model.specs.Safe.{Proper}
+use Rattle.model.proofs.Routes.{proper_from, hops_from_here, hops_from_next}
 use Rattle.model.proofs.GridSums.{grid_sum_at}
 use Rattle.model.proofs.StreamItems.{of_stream_count}
 

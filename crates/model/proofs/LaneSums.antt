@@ -5,13 +5,13 @@ use Rattle.routes.specs.declared.hop.Hop.{Hop}
 use Rattle.routes.specs.Loads.{sum_below}
 use Rattle.routes.specs.Routes.{hop_on}
 use Rattle.model.specs.Grid.{Setting}
-use Rattle.model.proofs.Routes.{OnGrid}
+use Rattle.model.specs.Safe.{OnGrid}
 
-sum_below_same : (n : ℕ) (f g : ℕ → ℕ) → ((k : ℕ) → k < n → f k ≡ g k) → sum_below n f ≡ sum_below n g
+pub sum_below_same : (n : ℕ) (f g : ℕ → ℕ) → ((k : ℕ) → k < n → f k ≡ g k) → sum_below n f ≡ sum_below n g
 sum_below_same zero f g same = refl
 sum_below_same (suc n) f g same = omega (arith, same n (omega arith), sum_below_same n f g (λ k low. same k (omega arith)))
 
-sum_below_zero : (n : ℕ) (f : ℕ → ℕ) → ((k : ℕ) → k < n → f k ≡ 0) → sum_below n f ≡ 0
+pub sum_below_zero : (n : ℕ) (f : ℕ → ℕ) → ((k : ℕ) → k < n → f k ≡ 0) → sum_below n f ≡ 0
 sum_below_zero zero f none = refl
 sum_below_zero (suc n) f none = omega (arith, none n (omega arith), sum_below_zero n f (λ k low. none k (omega arith)))
 
@@ -24,7 +24,7 @@ sum_below_at (suc n) f k low =
     (cases_eq k n)
 
 -- Where two functions differ at one number only, their sums differ as they do there.
-sum_below_change : (n : ℕ) (f g : ℕ → ℕ) (k : ℕ) → k < n → ((j : ℕ) → (j ≡ k → ⊥) → f j ≡ g j) → sum_below n f + g k ≡ sum_below n g + f k
+pub sum_below_change : (n : ℕ) (f g : ℕ → ℕ) (k : ℕ) → k < n → ((j : ℕ) → (j ≡ k → ⊥) → f j ≡ g j) → sum_below n f + g k ≡ sum_below n g + f k
 sum_below_change zero f g k low same = omega arith
 sum_below_change (suc n) f g k low same =
     ⊎_elim

@@ -12,8 +12,15 @@ pub mod Along
 pub mod Order
 pub mod Safe
 pub mod Progress
+pub mod AllLanes
 pub mod Rests
+pub mod Standing
+pub mod SlotCounts
 pub mod Closes
+pub mod Onward
 pub mod Runs
+pub mod Loads
+pub mod Reopening
 pub mod Ranks
+pub mod Sounding
 pub mod Theorem

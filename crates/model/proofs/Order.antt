@@ -9,15 +9,12 @@ use Rattle.model.specs.Grid.{Setting, Queue, Grid, with_stream, with_queue, enqu
 use Rattle.model.specs.Sums.{of_stream}
 use Rattle.model.specs.Calls.{Call, Outcome}
 use Rattle.model.specs.Runs.{entering, leaving, opens_stream}
+use Rattle.model.specs.Waiting.{along, own, waiting}
 use Rattle.model.specs.Law.{NoneOnGrid}
 use Rattle.model.proofs.Puts.{assign_other}
 use Rattle.model.proofs.Kept.{Kept, Front, closed_none, counted_none}
 use Rattle.model.proofs.Does.{Does, refused, opened, closed, sent, passed, left}
-use Rattle.model.proofs.Along.{along, along_none, own, sent_last, left_first, passed_same, pushed_other, popped_other}
-
--- the items of a stream along its route, the next to leave first
-abbrev pub waiting : {T : Type 0} → ℕ → Grid T → List T
-waiting n g = along (own n g.contents) (route_of (g.streams n))
+use Rattle.model.proofs.Along.{along_none, sent_last, left_first, passed_same, pushed_other, popped_other}
 
 -- How each change of the grid changes what waits of one stream.
 module _ {T : Type 0} (S : Setting) (g : Grid T) (kept : Kept S g) (n : ℕ) where
@@ -81,7 +78,17 @@ module _ {T : Type 0} (S : Setting) (g : Grid T) (kept : Kept S g) (n : ℕ) whe
         (λ (mine : k ≡ n). simp (eq-eqb k n mine, nothing_waits k mine none))
         (λ (other : k ≡ n → ⊥). rw (ne_eqb k n other) (hands_out _ [] (assign_waiting k _ none)))
         (cases_eq k n)
-    order_next (closed count) = hands_out _ [] (assign_waiting _ _ (counted_none S g kept _ count))
+    order_next (closed low count) = hands_out _ [] (assign_waiting _ _ (counted_none S g kept _ count))
     order_next (sent first rest slots route) = lets_in _ _ (sent_waiting _ first rest route)
     order_next (passed front) = hands_out _ [] (passed_waiting front)
     order_next (left front) = hands_out _ _ (left_waiting front)
+
+    -- it is so too where the count goes on over openings
+    pub order_on : {c : Call T} {o : Outcome T} → Does S g c o
+        → came_in ++ of_stream n (entering c o.answer) ≡ (went_out ++ of_stream n (leaving o.answer)) ++ waiting n o.grid
+    order_on refused = grind (arith, append-nil)
+    order_on (opened {n = k} low not_open judged) = hands_out _ [] (assign_waiting k _ (closed_none S g kept k not_open))
+    order_on (closed low count) = hands_out _ [] (assign_waiting _ _ (counted_none S g kept _ count))
+    order_on (sent first rest slots route) = lets_in _ _ (sent_waiting _ first rest route)
+    order_on (passed front) = hands_out _ [] (passed_waiting front)
+    order_on (left front) = hands_out _ _ (left_waiting front)

@@ -8,10 +8,11 @@ use Rattle.routes.specs.Routes.{hop_on}
 use Rattle.model.specs.Grid.{Setting, Queue, Grid, enough_slots, has_room, route_of}
 use Rattle.model.specs.Calls.{lane_refusal, stepping}
 use Rattle.model.specs.Law.{WillStep, NoLaneWillStep}
-use Rattle.model.proofs.Routes.{OnGrid, hops_from_inherits}
+use Rattle.model.specs.Safe.{OnGrid}
+use Rattle.model.proofs.Routes.{hops_from_inherits}
 use Rattle.model.proofs.LaneSums.{sum_of_lanes, sum_of_lanes_at}
 use Rattle.model.proofs.Kept.{Kept, Front, all_placed, front_proper}
-use Rattle.model.proofs.Safe.{Rises}
+use Rattle.model.specs.Safe.{Rises}
 
 rises_after : (rank : Hop → ℕ) (h : Hop) (hops : List Hop) → Rises rank (h ∷ hops) → Rises rank hops
 rises_after rank h [] rises = tt

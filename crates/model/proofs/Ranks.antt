@@ -1,37 +1,47 @@
 -- A lawful layout is safe: first the lane, then the height of the link, is a rank that rises along every acceptable route.
-use Rattle.std.proofs.Common.{◌≡◌, ℕ, suc, ◌+◌, ◌*◌, ◌<◌, ◌≤◌, List, [], ◌∷◌, length, None, Option, sym, refl, mul-le-mul_right, add-one, arith}
+use Rattle.std.proofs.Common.{◌≡◌, ℕ, true, suc, ◌+◌, ◌*◌, ◌<◌, ◌≤◌, List, [], ◌∷◌, length, sym, refl, mul-le-mul_right, add-one, arith}
+use Rattle.std.specs.List.{list_all}
+use Rattle.std.proofs.lemmas.Bool.{and_from, lt-ltb}
+use Rattle.std.proofs.lemmas.Bool.Decides.{nat_tests}
 use Rattle.std.proofs.ByRecursion.{All-from_get_or}
 use Rattle.layouts.specs.declared.turn.Turn.{Turn}
 use Rattle.layouts.specs.declared.turn.Turn.TheVariants.{Never, Free, Climb}
 use Rattle.layouts.specs.Layout.{Meaning, Lawful}
 use Rattle.routes.specs.declared.hop.Hop.{Hop}
 use Rattle.routes.specs.declared.stream.Request.{Request}
-use Rattle.routes.specs.Routes.{OpenStream, hop_at}
+use Rattle.routes.specs.Routes.{hop_at, is_on_grid}
 use Rattle.routes.specs.Loads.{sum_below}
 use Rattle.routes.specs.Checks.{Terms, terms_on}
 use Rattle.routes.specs.Acceptable.{Acceptable}
 use Rattle.routes.proofs.HopLists.{used_nowhere}
 use Rattle.routes.proofs.Judging.{acceptable}
-use Rattle.model.specs.Grid.{Setting, assign, route_of}
-use Rattle.model.specs.Layouts.{on_layout}
-use Rattle.model.proofs.Puts.{assign_each}
-use Rattle.model.proofs.Routes.{OnGrid, Apart, Proper, proper_none}
+use Rattle.model.specs.Grid.{Setting, Streams, route_of}
+use Rattle.model.specs.Kinds.{on_layout}
+use Rattle.model.specs.Safe.{OnGrid, Apart, Proper, Rises, Reached, Safe}
+use Rattle.model.proofs.Routes.{proper_none}
 use Rattle.model.proofs.LaneSums.{sum_below_at}
-use Rattle.model.proofs.Safe.{Rises, Safe}
+use Rattle.model.proofs.Reopening.{routes_hold}
 
 -- What holds by the places of the hops, as a fact of the route.
-apart_by_place : (hops : List Hop) → ((j k : ℕ) → j < k → k < length hops → (hop_at hops j).link ≡ (hop_at hops k).link → ⊥) → Apart hops
+pub apart_by_place : (hops : List Hop) → ((j k : ℕ) → j < k → k < length hops → (hop_at hops j).link ≡ (hop_at hops k).link → ⊥) → Apart hops
 apart_by_place [] once = tt
 apart_by_place (h ∷ hops) once = (
   used_nowhere h.link hops (λ k low same. once 0 (suc k) (omega arith) (omega arith) (sym same)),
   apart_by_place hops (λ j k below low. once (suc j) (suc k) (omega arith) (omega arith)),
 )
 
-rises_by_place : (rank : Hop → ℕ) (hops : List Hop)
+pub rises_by_place : (rank : Hop → ℕ) (hops : List Hop)
     → ((k : ℕ) → suc k < length hops → rank (hop_at hops k) < rank (hop_at hops (suc k))) → Rises rank hops
 rises_by_place rank [] each = tt
 rises_by_place rank (h ∷ []) each = tt
 rises_by_place rank (h ∷ (next ∷ hops)) each = (each 0 (omega arith), rises_by_place rank (next ∷ hops) (λ k low. each (suc k) (omega arith)))
+
+-- hops that are there pass the test
+pub all_there : {links lanes : ℕ} (hops : List Hop) → ((k : ℕ) → k < length hops → ((hop_at hops k).link < links) × ((hop_at hops k).lane < lanes)) → list_all (is_on_grid links lanes) hops ≡ true
+all_there [] each = refl
+all_there (h ∷ hops) each =
+    let here = each 0 (omega arith) in
+    and_from _ _ (and_from _ _ (lt-ltb _ _ here.0) (lt-ltb _ _ here.1)) (all_there hops (λ k low. each (suc k) (omega arith)))
 
 -- the sum of all heights, which none of them exceeds
 abbrev top : Meaning → ℕ
@@ -44,15 +54,8 @@ rank m h = h.lane * suc (top m) + m.height h.link
 abbrev Ranked : Meaning → Setting → List Hop → Type 0
 Ranked m S hops = Proper S hops × Rises (rank m) hops
 
-abbrev pub AllRanked : Meaning → Setting → (ℕ → Option OpenStream) → Type 0
-AllRanked m S streams = (n : ℕ) → Ranked m S (route_of (streams n))
-
 none_ranked : (m : Meaning) (S : Setting) → Ranked m S []
 none_ranked m S = (proper_none S, tt)
-
-assign_ranked : (m : Meaning) (S : Setting) (streams : ℕ → Option OpenStream) (n : ℕ) (entry : Option OpenStream)
-    → Ranked m S (route_of entry) → AllRanked m S streams → AllRanked m S (assign streams n entry)
-assign_ranked m S streams n entry = assign_each streams n entry (λ _ entry. Ranked m S (route_of entry))
 
 module _ (m : Meaning) (law : Lawful m) where
   turn_rises : (h next : Hop) → h.link < m.links → h.lane ≤ next.lane → (t : Turn) → m.turn h.link next.link ≡ t
@@ -66,10 +69,10 @@ module _ (m : Meaning) (law : Lawful m) where
     abbrev S : Setting
     S = on_layout m lanes depth capacity slots
 
-    abbrev terms : (ℕ → Option OpenStream) → Terms
+    abbrev terms : Streams → Terms
     terms streams = terms_on m lanes capacity streams
 
-    acceptable_ranked : (streams : ℕ → Option OpenStream) (q : Request) (hops : List Hop) → Acceptable (terms streams) q hops → Ranked m S hops
+    acceptable_ranked : (streams : Streams) (q : Request) (hops : List Hop) → Acceptable (terms streams) q hops → Ranked m S hops
     acceptable_ranked streams q hops a = (
       record { on_grid = All-from_get_or (OnGrid S) hops _ a.on_grid; apart = apart_by_place hops a.once },
       rises_by_place (rank m) hops (λ k low.
@@ -79,13 +82,17 @@ module _ (m : Meaning) (law : Lawful m) where
           (turn_rises (hop_at hops k) (hop_at hops (k + 1)) (a.on_grid k here).0 (a.keeps_lane k next) _ refl (a.turns k next) (a.climbs k next))),
     )
 
-    pub lawful_safe : 1 ≤ depth → Safe S (AllRanked m S)
-    lawful_safe deep = record {
-      deep = deep;
-      at_start = λ n. none_ranked m S;
-      at_open = λ streams n q hops ranked _ judged.
-          assign_ranked m S streams n _ (acceptable_ranked streams q hops (acceptable (terms streams) q hops judged)) ranked;
-      at_close = λ streams n. assign_ranked m S streams n None (none_ranked m S);
-      proper = λ streams ranked n. (ranked n).0;
-      ranked = λ streams ranked. (rank m, λ n. (ranked n).1);
+    all_ranked : (streams : Streams) → Reached S.judge streams → (n : ℕ) → Ranked m S (route_of (streams n))
+    all_ranked = routes_hold S.judge (Ranked m S) (none_ranked m S) (λ streams q hops judged. acceptable_ranked streams q hops (acceptable (terms streams) q hops judged))
+
+    pub lawful_safe : Safe S
+    lawful_safe = record {
+      takes = λ streams q hops judged.
+          let a = acceptable (terms streams) q hops judged in
+          record {
+            count = grind (arith, nat_tests, a.count);
+            there = all_there hops (λ k low. a.on_grid k low);
+          };
+      proper = λ streams reached n. (all_ranked streams reached n).0;
+      ranked = λ streams reached. (rank m, λ n. (all_ranked streams reached n).1);
     }

@@ -1,24 +1,14 @@
 -- What is asked of a route, and the hops of a route from one link on.
-use Rattle.std.proofs.Common.{◌≡◌, ℕ, ◌<◌, false, eqb, List, [], ◌∷◌, refl, arith}
-use Rattle.std.specs.List.{AllByRecursion as All}
+use Rattle.std.proofs.Common.{◌≡◌, ℕ, false, eqb, List, [], ◌∷◌, Option, refl, arith}
+use Rattle.std.proofs.Math.Logic.{∥∥₁_elim}
+use Rattle.std.proofs.Props.{props}
+use Rattle.std.specs.List.{AllByRecursion-prop}
 use Rattle.std.proofs.lemmas.Bool.{cond_both, or_parts}
 use Rattle.std.proofs.lemmas.Bool.Decides.{nat_tests}
 use Rattle.routes.specs.declared.hop.Hop.{Hop}
-use Rattle.routes.specs.Routes.{uses}
-use Rattle.model.specs.Grid.{Setting, hops_from}
-
-abbrev pub OnGrid : Setting → Hop → Type 0
-OnGrid S h = (h.link < S.links) × (h.lane < S.lanes)
-
--- No link stands twice.
-abbrev pub Apart : List Hop → Type 0
-Apart [] = Unit {0}
-Apart (h ∷ hops) = (uses h.link hops ≡ false) × Apart hops
-
--- A proper route takes links and lanes of the grid, and no link twice. One of no hops is proper too.
-pub record Proper (S : Setting) (hops : List Hop) : Type 0 where
-  pub on_grid : All (OnGrid S) hops
-  pub apart : Apart hops
+use Rattle.routes.specs.Routes.{OpenStream, uses}
+use Rattle.model.specs.Grid.{Setting, route_of, hops_from}
+use Rattle.model.specs.Safe.{OnGrid, Apart, Proper, Reached, Safe}
 
 pub proper_none : (S : Setting) → Proper S []
 proper_none S = record { on_grid = tt; apart = tt }
@@ -54,3 +44,15 @@ hops_from_next link (first ∷ hops) h next rest apart from =
     let later = hops_from_next link hops h next rest apart.1 in
     let unused = hops_from_unused first.link hops apart.0 in
     grind (arith, nat_tests)
+
+-- a route is proper in one way at most
+apart_prop : (hops : List Hop) → IsProp (Apart hops)
+apart_prop [] = hlevel
+apart_prop (h ∷ hops) = hlevel (props, apart_prop hops)
+
+pub proper_prop : (S : Setting) (hops : List Hop) → IsProp (Proper S hops)
+proper_prop S hops = hlevel (props, apart_prop hops, AllByRecursion-prop (OnGrid S) (λ h. hlevel props) hops)
+
+-- The routes of reached streams are proper.
+pub proper_of : (S : Setting) → Safe S → (streams : ℕ → Option OpenStream) → ∥ Reached S.judge streams ∥₁ → (n : ℕ) → Proper S (route_of (streams n))
+proper_of S safe streams reached n = ∥∥₁_elim reached (proper_prop S (route_of (streams n))) (λ r. safe.proper streams r n)

@@ -1,20 +1,21 @@
 -- The law of every run, on a grid of any kind whose open streams are safe.
-use Rattle.std.proofs.Common.{◌≡◌, ℕ, ◌+◌, ◌↔◌, List, [], ◌∷◌, ◌++◌, length, is_some, Some, None, Option, sym, refl, ap, ◌∙◌, arith}
+use Rattle.std.proofs.Common.{◌≡◌, ℕ, ◌+◌, ◌≤◌, ◌↔◌, List, [], ◌++◌, length, is_some, Some, None, sym, refl, ap, ◌∙◌, arith}
 use mathlib.Core.Logic.Iff
-use Rattle.std.proofs.lemmas.List.{append-nil, append_cancel_left, length-append}
+use Rattle.std.proofs.lemmas.List.{append-nil, append_cancel_left}
 use Rattle.routes.specs.Routes.{OpenStream}
-use Rattle.model.specs.Grid.{Setting}
+use Rattle.model.specs.Grid.{Setting, blank}
 use Rattle.model.specs.Sums.{grid_sum, one, item_count, ahead, hops_ahead}
-use Rattle.model.specs.Calls.{Call, steps, outcome}
+use Rattle.model.specs.Calls.{Call, outcome}
 use Rattle.model.specs.Runs.{History, start, ◌▸◌, after, let_in, handed_out, steps_gone, hops_let_in, let_in_since, handed_out_since, then_steps}
+use Rattle.model.specs.Waiting.{waiting}
 use Rattle.model.specs.Law.{KeepsOrder, KeepsPace, Keeps}
 use Rattle.model.proofs.GridSums.{grid_sum_zero}
 use Rattle.model.proofs.Kept.{Kept}
 use Rattle.model.proofs.Does.{Does, does}
-use Rattle.model.proofs.Keeping.{kept_blank, kept_next}
-use Rattle.model.proofs.Counts.{hops_next, items_next}
-use Rattle.model.proofs.Order.{waiting, order_next}
-use Rattle.model.proofs.Safe.{Safe, held_next}
+use Rattle.model.proofs.Keeping.{kept_blank}
+use Rattle.model.proofs.Order.{order_next}
+use Rattle.model.specs.Safe.{Reached, none_open, Safe}
+use Rattle.model.proofs.Onward.{reached_and_kept, hops_from_on, items_from_on, hops_then}
 use Rattle.model.proofs.Rests.{rests_without_items, rests_without_hops}
 use Rattle.model.proofs.Closes.{none_waits, none_when_closes}
 
@@ -25,17 +26,13 @@ whole_when_no_rest whole first rest split = (
   (λ none. split ∙ rw none (append-nil first)),
 )
 
-module _ {T : Type 0} (S : Setting) (Held : (ℕ → Option OpenStream) → Type 0) (safe : Safe S Held) where
-  held_and_kept : (past : History T) → Held (after S past).streams × Kept S (after S past)
-  held_and_kept start = (safe.at_start, kept_blank S)
-  held_and_kept (past ▸ c) =
-      let before = held_and_kept past in
-      let did = does S (after S past) before.1 c in
-      let held = held_next S Held safe (after S past) before.0 did in
-      (held, kept_next S (after S past) before.1 did (safe.proper _ held))
+-- From the blank grid on.
+module _ {T : Type 0} (S : Setting) (deep : 1 ≤ S.depth) (safe : Safe S) where
+  reached_after : (past : History T) → ∥ Reached S.judge (after S past).streams ∥₁ × Kept S (after S past)
+  reached_after = reached_and_kept S safe blank (∣ none_open ∣₁) (kept_blank S)
 
   kept_after : (past : History T) → Kept S (after S past)
-  kept_after past = (held_and_kept past).1
+  kept_after past = (reached_after past).1
 
   did : (past : History T) (c : Call T) → Does S (after S past) c (outcome S (after S past) c)
   did past c = does S (after S past) (kept_after past) c
@@ -44,23 +41,15 @@ module _ {T : Type 0} (S : Setting) (Held : (ℕ → Option OpenStream) → Type
   blank_sum cost = grid_sum_zero S cost (λ _ _. []) (λ _ _ _. refl)
 
   hops_after : (past : History T) → hops_ahead S (after S past) + steps_gone S past ≡ hops_let_in S past
-  hops_after start = omega (arith, blank_sum (ahead (λ _. None)))
-  hops_after (past ▸ c) = omega (arith, hops_after past, hops_next S (after S past) (kept_after past) (did past c))
+  hops_after past = omega (arith, hops_from_on S safe blank (∣ none_open ∣₁) (kept_blank S) past, blank_sum (ahead (λ _. None)))
 
   items_after : (past : History T) → item_count S (after S past) + length (handed_out S past) ≡ length (let_in S past)
-  items_after start = omega (arith, blank_sum one)
-  items_after (past ▸ c) =
-      simp length-append (omega (arith, items_after past, items_next S (after S past) (kept_after past) (did past c)))
+  items_after past = omega (arith, items_from_on S safe blank (∣ none_open ∣₁) (kept_blank S) past, blank_sum one)
 
   order_after : (n : ℕ) (past : History T) → let_in_since S n past ≡ handed_out_since S n past ++ waiting n (after S past)
   order_after n start = refl
   order_after n (past ▸ c) =
       order_next S (after S past) (kept_after past) n (let_in_since S n past) (handed_out_since S n past) (order_after n past) (did past c)
-
-  -- Steps let nothing in.
-  hops_then : (past : History T) (more : List (ℕ × ℕ)) → hops_let_in S (then_steps past more) ≡ hops_let_in S past
-  hops_then past [] = refl
-  hops_then past (step ∷ more) = omega (arith, hops_then (past ▸ steps step.0 step.1) more)
 
   keeps_order : (past : History T) (n : ℕ) (s : OpenStream) → (after S past).streams n ≡ Some s → KeepsOrder S past n
   keeps_order past n s is_open =
@@ -77,19 +66,19 @@ module _ {T : Type 0} (S : Setting) (Held : (ℕ → Option OpenStream) → Type
   keeps_pace past more =
       let end = then_steps past more in
       let hops : hops_ahead S (after S end) + steps_gone S end ≡ hops_ahead S (after S past) + steps_gone S past =
-      hops_after end ∙ (hops_then past more ∙ sym (hops_after past)) in
-      let now = held_and_kept end in
+      hops_after end ∙ (hops_then S safe blank (∣ none_open ∣₁) (kept_blank S) past more ∙ sym (hops_after past)) in
+      let now = reached_after end in
       record {
         at_most = omega arith;
-        exactly = Iff.trans (omega arith) (rests_without_hops S Held safe (after S end) now.0 now.1);
+        exactly = Iff.trans (omega arith) (rests_without_hops S deep safe (after S end) now.0 now.1);
       }
 
   pub keeps : (past : History T) → Keeps S past
   keeps past =
-      let now = held_and_kept past in
+      let now = reached_after past in
       record {
         items = items_after past;
-        all_out = Iff.trans (omega (arith, items_after past)) (rests_without_items S Held safe (after S past) now.0 now.1);
+        all_out = Iff.trans (omega (arith, items_after past)) (rests_without_items S deep safe (after S past) now.0 now.1);
         in_order = keeps_order past;
         hops = hops_after past;
         pace = keeps_pace past;

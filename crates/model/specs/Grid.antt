@@ -5,14 +5,22 @@ use Rattle.routes.specs.declared.hop.Hop.{Hop}
 use Rattle.routes.specs.declared.stream.Request.{Request}
 use Rattle.routes.specs.Routes.{OpenStream}
 
+-- the open streams by number
+abbrev pub Streams : Type 0
+Streams = ℕ → Option OpenStream
+
+-- what declines a stream of given fields and hops, if anything does, by the streams that are open
+abbrev pub Judge : Type 0
+Judge = Streams → Request → List Hop → Option Declined
+
 -- What stays as it is over a run: how many links there are, how many lanes a link has, how many items a lane holds, how
--- many item slots are lent, and what declines a stream of given fields and hops, by the streams that are open.
+-- many item slots are lent, and what declines a stream.
 pub record Setting : Type 0 where
   pub links : ℕ
   pub lanes : ℕ
   pub depth : ℕ
   pub slots : ℕ
-  pub judge : (ℕ → Option OpenStream) → Request → List Hop → Option Declined
+  pub judge : Judge
 
 -- items with the numbers of their streams, front first
 abbrev pub Queue : Type 0 → Type 0
@@ -21,7 +29,7 @@ Queue T = List (ℕ × T)
 -- The open streams by number; what each lane contains, by link and lane; and the place within each lane that its next
 -- item takes.
 pub record Grid (T : Type 0) : Type 0 where
-  pub streams : ℕ → Option OpenStream
+  pub streams : Streams
   pub contents : ℕ → ℕ → Queue T
   pub places : ℕ → ℕ → ℕ
 
@@ -30,7 +38,7 @@ abbrev pub blank : {T : Type 0} → Grid T
 blank = record { streams = λ _. None; contents = λ _ _. []; places = λ _ _. 0 }
 
 -- the streams with another entry at number n
-unfoldable pub assign : (ℕ → Option OpenStream) → ℕ → Option OpenStream → ℕ → Option OpenStream
+unfoldable pub assign : Streams → ℕ → Option OpenStream → Streams
 assign streams n entry k = cond (k == n) entry (streams k)
 
 -- a table of lanes with another entry at one of them

@@ -1,9 +1,14 @@
 pub mod Grid
 pub mod Sums
 pub mod Calls
-pub mod Layouts
+pub mod Kinds
 pub mod Runs
 pub mod Slots
 pub mod Questions
 pub mod Outlines
+pub mod Safe
+pub mod Standing
+pub mod Waiting
 pub mod Law
+pub mod Sound
+pub mod Reopening

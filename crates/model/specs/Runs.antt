@@ -4,19 +4,20 @@ use Rattle.model.specs.Grid.{Setting, Queue, Grid, blank, route_of}
 use Rattle.model.specs.Sums.{of_stream}
 use Rattle.model.specs.Calls.{Call, opens, closes, sends, steps, Answer, declined, done, moved, out, outcome}
 
--- The calls made since the grid was blank, the latest last.
+-- Calls made one after another, the latest last.
 infixl 20 ◌▸◌
 pub data History (T : Type 0) : Type 0 where
   start : History T
   ◌▸◌ : History T → Call T → History T
 
-abbrev pub after : {T : Type 0} → Setting → History T → Grid T
-after S start = blank
-after S (past ▸ c) = (outcome S (after S past) c).grid
+-- the grid that they leave of a grid
+abbrev pub after_from : {T : Type 0} → Setting → Grid T → History T → Grid T
+after_from S g start = g
+after_from S g (past ▸ c) = (outcome S (after_from S g past) c).grid
 
 -- the answer to a call made next
-abbrev pub answer_to : {T : Type 0} → Setting → History T → Call T → Answer T
-answer_to S past c = (outcome S (after S past) c).answer
+abbrev pub answer_from : {T : Type 0} → Setting → Grid T → History T → Call T → Answer T
+answer_from S g past c = (outcome S (after_from S g past) c).answer
 
 abbrev pub is_declined : {T : Type 0} → Answer T → Bool
 is_declined (declined d) = true
@@ -59,22 +60,42 @@ opens_stream n (closes k) a = false
 opens_stream n (sends k x) a = false
 opens_stream n (steps link lane) a = false
 
--- Counted from the blank grid on: the items let in, the items handed out, the steps that went, the hops let in.
+-- Counted from a grid on: the items let in, the items handed out, the steps that went, the hops let in.
+abbrev pub let_in_from : {T : Type 0} → Setting → Grid T → History T → Queue T
+let_in_from S g start = []
+let_in_from S g (past ▸ c) = let_in_from S g past ++ entering c (answer_from S g past c)
+
+abbrev pub handed_out_from : {T : Type 0} → Setting → Grid T → History T → Queue T
+handed_out_from S g start = []
+handed_out_from S g (past ▸ c) = handed_out_from S g past ++ leaving (answer_from S g past c)
+
+abbrev pub steps_gone_from : {T : Type 0} → Setting → Grid T → History T → ℕ
+steps_gone_from S g start = 0
+steps_gone_from S g (past ▸ c) = steps_gone_from S g past + going c (answer_from S g past c)
+
+abbrev pub hops_let_in_from : {T : Type 0} → Setting → Grid T → History T → ℕ
+hops_let_in_from S g start = 0
+hops_let_in_from S g (past ▸ c) =
+    hops_let_in_from S g past + hops_entering (after_from S g past) c (answer_from S g past c)
+
+-- The same from the blank grid on.
+abbrev pub after : {T : Type 0} → Setting → History T → Grid T
+after S = after_from S blank
+
+abbrev pub answer_to : {T : Type 0} → Setting → History T → Call T → Answer T
+answer_to S = answer_from S blank
+
 abbrev pub let_in : {T : Type 0} → Setting → History T → Queue T
-let_in S start = []
-let_in S (past ▸ c) = let_in S past ++ entering c (answer_to S past c)
+let_in S = let_in_from S blank
 
 abbrev pub handed_out : {T : Type 0} → Setting → History T → Queue T
-handed_out S start = []
-handed_out S (past ▸ c) = handed_out S past ++ leaving (answer_to S past c)
+handed_out S = handed_out_from S blank
 
 abbrev pub steps_gone : {T : Type 0} → Setting → History T → ℕ
-steps_gone S start = 0
-steps_gone S (past ▸ c) = steps_gone S past + going c (answer_to S past c)
+steps_gone S = steps_gone_from S blank
 
 abbrev pub hops_let_in : {T : Type 0} → Setting → History T → ℕ
-hops_let_in S start = 0
-hops_let_in S (past ▸ c) = hops_let_in S past + hops_entering (after S past) c (answer_to S past c)
+hops_let_in S = hops_let_in_from S blank
 
 -- The items of stream n let in and handed out since its opening, which is the latest call that opened it.
 abbrev pub let_in_since : {T : Type 0} → Setting → ℕ → History T → List T

@@ -1,0 +1,5 @@
+// Policies: what a kind of grid owes, and the kind by the rules of a layout.
+#![tactic(auto)]
+
+pub mod climbing;
+pub mod policy;

@@ -155,7 +155,7 @@ module _ (t : Terms) (q : Request) where
     pub two_tiles : q.source ≡ q.target → ⊥
     pub demand : 1 ≤ q.demand
 
-  pub fields_pass : first_of (field_checks t.layout q) ≡ None → FieldsPass
+  pub fields_pass : first_of (field_checks t.layout.tiles q) ≡ None → FieldsPass
   fields_pass none =
       let ends = passes (nat_lt q.source t.layout.tiles && (nat_lt q.target t.layout.tiles && not (q.source == q.target))) BadEndpoints _ none in
       let parts = and_parts _ _ ends.0 in
@@ -224,7 +224,7 @@ module _ (t : Terms) (q : Request) where
 
   -- ---- what is found, where nothing declines the search
 
-  pub finds : {V : Type 0} (s : Scale V) (refusal : Option Declined) (o : Option Route) → refusal ≡ None → first_of (field_checks t.layout q) ≡ None → FindsWalk s P o
+  pub finds : {V : Type 0} (s : Scale V) (refusal : Option Declined) (o : Option Route) → refusal ≡ None → first_of (field_checks t.layout.tiles q) ≡ None → FindsWalk s P o
       → Finds refusal s t q (result_map_both hops_of (λ d. d) (ok_or o (no_hop NoRoute)))
   finds s refusal None free fields none = inr (free, refl, none_acceptable none)
   finds s refusal (Some route) free fields best = (free, best_of s (hops_of route) (fields_pass fields) best)

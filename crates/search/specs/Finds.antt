@@ -27,7 +27,7 @@ SameBeyond n before after = drop n after ≡ drop n before
 -- what declines a search ahead of its rounds
 abbrev pub search_refusal : Terms → Request → ℕ → ℕ → Option Declined
 search_refusal t q values marks =
-    first_of (unless (lanes_allowed t.lanes) GridSize ∷ (unless (enough_scratch t.layout.links t.lanes values marks) TooFewSlots ∷ field_checks t.layout q))
+    first_of (unless (lanes_allowed t.lanes) GridSize ∷ (unless (enough_scratch t.layout.links t.lanes values marks) TooFewSlots ∷ field_checks t.layout.tiles q))
 
 -- A best route is found; or the answer tells what declines the search, and if nothing does, that there is no route, which is so.
 -- Which of equally good routes is found is left open.

@@ -15,7 +15,7 @@ use Rattle.search.specs.Finds.{enough_scratch, Finds}
 -- what declines a seek ahead of its search: too little scratch, the number of the stream, or its fields
 abbrev pub seek_refusal : Terms → (ℕ → Option OpenStream) → ℕ → Request → ℕ → ℕ → Option Declined
 seek_refusal t streams n q values marks =
-    first_of (unless (enough_scratch t.layout.links t.lanes values marks) TooFewSlots ∷ (declines (vacancy streams n) ∷ field_checks t.layout q))
+    first_of (unless (enough_scratch t.layout.links t.lanes values marks) TooFewSlots ∷ (declines (vacancy streams n) ∷ field_checks t.layout.tiles q))
 
 -- On a grid of so many lanes and a capacity, with these streams open and so much scratch, a seek finds a best route for a stream, or
 -- tells what declines it; where nothing does, it says that there is no route exactly if none is acceptable. Which of equally good

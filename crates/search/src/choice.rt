@@ -53,7 +53,9 @@ impl<A: Measure, B: Measure> Measure for Choice<A, B> {
         }
     }
 
-    ghost ordered = { λ c. choice_ordered c.is_second (A.scale c.first) (B.scale c.second) (A.ordered c.first) (B.ordered c.second) };
+    ghost ordered = { λ c. choice_ordered c.is_second (A.scale c.first) (B.scale c.second)
+        (A.ordered c.first) (B.ordered c.second) };
 
-    ghost antisymmetric = { λ c. choice_antisymmetric c.is_second (A.scale c.first) (B.scale c.second) (A.antisymmetric c.first) (B.antisymmetric c.second) };
+    ghost antisymmetric = { λ c. choice_antisymmetric c.is_second (A.scale c.first)
+        (B.scale c.second) (A.antisymmetric c.first) (B.antisymmetric c.second) };
 }

@@ -1,4 +1,5 @@
 // The search.
+ghost use Rattle.layouts.specs.Layout.{meaning_by};
 ghost use Rattle.std.specs.Prelude.{◌≡◌, ◌*◌, ◌≤◌, length};
 ghost use Rattle.std.specs.Result.{result_map_both};
 ghost use Rattle.routes.specs.Routes.{hops_of};
@@ -12,20 +13,25 @@ use crate::measure::Measure;
 use crate::prepared::Prepared;
 use crate::scratch::{check_scratch, marks_needed, values_needed};
 use crate::search::Search;
-use layouts::layout::Layout;
+use layouts::rules::Rules;
+use layouts::ways::Ways;
 use refusals::refusal::Refusal;
 use routes::declined::Declined;
 use routes::judge::{Limits, judge_fields};
 use routes::route::Route;
 use routes::stream::Request;
 
-impl<L: Layout, M: Measure> Search<'_, L, M> {
+impl<L: Rules, M: Measure> Search<'_, L, M> {
     // The route of a walk that arrives with the fewest hops, and among those of least measure, if any walk of at most 24 hops
     // arrives.
     fn best(&self, values: &mut [M::Value], marks: &mut [u16]) -> Option<Route>
-        requires values { 2 * places (problem_in (L.meaning self.now.layout.now) self.now.prepared) ≤ length values.old }
-        requires marks { 24 * places (problem_in (L.meaning self.now.layout.now) self.now.prepared) ≤ length marks.old }
-        ensures { FindsWalk (M.scale self.now.measure.now) (problem_in (L.meaning self.now.layout.now) self.now.prepared) result }
+        requires values { 2 * places (problem_in (meaning_by L.topology L.turns self.now.layout.now)
+            self.now.prepared) ≤ length values.old }
+        requires marks { 24 * places (problem_in (meaning_by L.topology L.turns self.now.layout.now)
+            self.now.prepared) ≤ length marks.old }
+        ensures { FindsWalk (M.scale self.now.measure.now)
+            (problem_in (meaning_by L.topology L.turns self.now.layout.now) self.now.prepared)
+            result }
     {
         let mut found = None;
         'rounds: for k in 0..24 {
@@ -50,7 +56,7 @@ impl<L: Layout, M: Measure> Search<'_, L, M> {
 /// Refuses, in this order, lanes outside 1 to 4 by `GridSize`, scratch that `check_scratch` refuses by `TooFewSlots`, and what
 /// `judge_fields` refuses by `BadEndpoints` and `ZeroAmount`; where nothing of this is refused, it refuses by `NoRoute` exactly if
 /// no route is acceptable. No refusal tells a hop.
-pub fn find<L: Layout, M: Measure>(
+pub fn find<L: Rules, M: Measure>(
     layout: &L,
     limits: Limits<'_>,
     request: Request,
@@ -58,9 +64,13 @@ pub fn find<L: Layout, M: Measure>(
     values: &mut [M::Value],
     marks: &mut [u16],
 ) -> Result<Route, Declined>
-    ensures found { let t = terms_of (L.meaning layout.now) limits.entry in Finds (search_refusal t request (length values.old) (length marks.old)) (M.scale measure.now) t request (result_map_both hops_of (λ d. d) result) }
-    ensures values { SameBeyond (values_needed (L.meaning layout.now).links limits.entry.lanes) values.old values.new }
-    ensures marks { SameBeyond (marks_needed (L.meaning layout.now).links limits.entry.lanes) marks.old marks.new }
+    ensures found { let t = terms_of (meaning_by L.topology L.turns layout.now) limits.entry in
+        Finds (search_refusal t request (length values.old) (length marks.old))
+        (M.scale measure.now) t request (result_map_both hops_of (λ d. d) result) }
+    ensures values { SameBeyond (values_needed (meaning_by L.topology L.turns layout.now).links
+        limits.entry.lanes) values.old values.new }
+    ensures marks { SameBeyond (marks_needed (meaning_by L.topology L.turns layout.now).links
+        limits.entry.lanes) marks.old marks.new }
 {
     if limits.lanes < 1 || limits.lanes > 4 {
         return Err(Refusal::GridSize.into());

@@ -1,7 +1,9 @@
 // The links that lead to each tile.
+ghost use Rattle.layouts.specs.Layout.{meaning_by};
 ghost use Rattle.search.specs.Incoming.{Chains};
 
-use layouts::layout::Layout;
+use layouts::rules::Rules;
+use layouts::ways::Ways;
 
 /// For each tile the last link that leads to it, and for each link the one before it that leads to the same tile. So the links
 /// into a tile are found one by one, and those into others are not looked at.
@@ -13,8 +15,9 @@ pub(crate) struct Incoming {
 
 impl Incoming {
     // The links of a layout.
-    pub(crate) fn of<L: Layout>(layout: &L) -> Incoming
-        ensures { Chains (L.meaning layout.now) (L.meaning layout.now).links result }
+    pub(crate) fn of<L: Rules>(layout: &L) -> Incoming
+        ensures { Chains (meaning_by L.topology L.turns layout.now)
+            (meaning_by L.topology L.turns layout.now).links result }
     {
         let mut last = [None; 64];
         let mut previous = [None; 256];

@@ -1,20 +1,30 @@
 // The rounds of a search: row after row of walks, each one hop longer.
+ghost use Rattle.layouts.specs.Layout.{meaning_by};
 ghost use Rattle.std.specs.Prelude.{◌*◌, ◌<◌, ◌≤◌, length};
 ghost use Rattle.search.specs.Walks.{problem_in, places};
 ghost use Rattle.search.specs.Rows.{marks_in, values_in, Tells, RowBefore, Row};
 
 use crate::measure::Measure;
 use crate::search::Search;
-use layouts::layout::Layout;
+use layouts::rules::Rules;
+use layouts::ways::Ways;
 
-impl<L: Layout, M: Measure> Search<'_, L, M> {
+impl<L: Rules, M: Measure> Search<'_, L, M> {
     // The mark of a place in row k, and the value that goes with it.
     fn entry(&self, values: &[M::Value], marks: &[u16], k: usize, place: usize) -> (u16, M::Value)
-        requires place { place < places (problem_in (L.meaning self.now.layout.now) self.now.prepared) }
-        requires values { places (problem_in (L.meaning self.now.layout.now) self.now.prepared) ≤ length values.now }
-        requires marks { k * places (problem_in (L.meaning self.now.layout.now) self.now.prepared) ≤ length marks.now }
-        requires before { let P = problem_in (L.meaning self.now.layout.now) self.now.prepared in let s = M.scale self.now.measure.now in RowBefore s P (marks_in P marks.now) (values_in s values.now) k }
-        ensures { let P = problem_in (L.meaning self.now.layout.now) self.now.prepared in Tells (M.scale self.now.measure.now) P (marks_in P marks.now) k place result.0 result.1 }
+        requires place { place
+            < places (problem_in (meaning_by L.topology L.turns self.now.layout.now)
+            self.now.prepared) }
+        requires values { places (problem_in (meaning_by L.topology L.turns self.now.layout.now)
+            self.now.prepared) ≤ length values.now }
+        requires marks { k * places (problem_in (meaning_by L.topology L.turns self.now.layout.now)
+            self.now.prepared) ≤ length marks.now }
+        requires before { let P = problem_in (meaning_by L.topology L.turns self.now.layout.now)
+            self.now.prepared in let s = M.scale self.now.measure.now in
+            RowBefore s P (marks_in P marks.now) (values_in s values.now) k }
+        ensures { let P = problem_in (meaning_by L.topology L.turns self.now.layout.now)
+            self.now.prepared in Tells (M.scale self.now.measure.now) P (marks_in P marks.now) k
+            place result.0 result.1 }
     {
         let start = self.measure.start();
         let hop = self.hop(place);
@@ -37,10 +47,16 @@ impl<L: Layout, M: Measure> Search<'_, L, M> {
     // Fills row k from the row before, if there is one. Its values are worked out in the upper half and then moved down.
     pub(crate) fn round(&self, values: &mut [M::Value], marks: &mut [u16], k: usize)
         requires row { k < 24 }
-        requires values { 2 * places (problem_in (L.meaning self.now.layout.now) self.now.prepared) ≤ length values.old }
-        requires marks { 24 * places (problem_in (L.meaning self.now.layout.now) self.now.prepared) ≤ length marks.old }
-        requires before { let P = problem_in (L.meaning self.now.layout.now) self.now.prepared in let s = M.scale self.now.measure.now in RowBefore s P (marks_in P marks.old) (values_in s values.old) k }
-        ensures { let P = problem_in (L.meaning self.now.layout.now) self.now.prepared in let s = M.scale self.now.measure.now in Row s P (marks_in P marks.new) (values_in s values.new) k (places P) }
+        requires values { 2 * places (problem_in (meaning_by L.topology L.turns self.now.layout.now)
+            self.now.prepared) ≤ length values.old }
+        requires marks { 24 * places (problem_in (meaning_by L.topology L.turns self.now.layout.now)
+            self.now.prepared) ≤ length marks.old }
+        requires before { let P = problem_in (meaning_by L.topology L.turns self.now.layout.now)
+            self.now.prepared in let s = M.scale self.now.measure.now in
+            RowBefore s P (marks_in P marks.old) (values_in s values.old) k }
+        ensures { let P = problem_in (meaning_by L.topology L.turns self.now.layout.now)
+            self.now.prepared in let s = M.scale self.now.measure.now in
+            Row s P (marks_in P marks.new) (values_in s values.new) k (places P) }
     {
         let places = self.places();
         for place in 0..places {

@@ -1,3 +1,4 @@
+use Rattle.layouts.specs.Layout.{meaning_by}
 use Rattle.std.proofs.Common.{◌≡◌, length, Result, Ok, Err, refl, ap, subst, Bool, true, false, cond}
 use Rattle.std.proofs.Math.Path.{fun_ext}
 use Rattle.std.proofs.lemmas.Bool.{and_from, le-leb}
@@ -18,7 +19,7 @@ enough false is = cc
 
 pub returns-clause-found : goal.returns-clause-found
 returns-clause-found g c =
-    let m = g.L.Layout.meaning c.args.layout.now in
+    let m = meaning_by g.L.Ways.topology g.L.Rules.turns c.args.layout.now in
     let t = terms_of m c.args.limits in
     let q = c.args.request in
     let s = g.M.Measure.scale c.args.measure.now in

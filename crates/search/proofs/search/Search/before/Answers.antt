@@ -1,3 +1,4 @@
+use Rattle.layouts.specs.Layout.{meaning_by, lawful_by}
 use Rattle.std.proofs.Common.{sym, ap, ◌∙◌, arith}
 use Rattle.std.proofs.lemmas.Bool.{eqb-true}
 use Rattle.search.specs.Incoming.{last_below, ends_at}
@@ -15,7 +16,7 @@ place_before-requires-clause-link g c =
 
 pub lesser-requires-clause-place : goal.lesser-requires-clause-place
 lesser-requires-clause-place g c =
-    let P = problem_in (g.L.Layout.meaning c.args.self.now.layout.now) c.args.self.now.prepared in
+    let P = problem_in (meaning_by g.L.Ways.topology g.L.Rules.turns c.args.self.now.layout.now) c.args.self.now.prepared in
     let so_far = c.loop-into.invariant in
     let link = is_last so_far.0 _ c.in-Some.link (sym so_far.2 ∙ c.in-Some.is) in
     omega (
@@ -28,7 +29,7 @@ lesser-requires-clause-place g c =
 
 pub bounds-self-from-in-Some : goal.bounds-self-from-in-Some
 bounds-self-from-in-Some g c =
-    let law = g.met.L.Layout.lawful c.args.self.now.layout.now in
+    let law = lawful_by (g.met.L.Ways.ways_law c.args.self.now.layout.now) (g.met.L.Rules.turn_law c.args.self.now.layout.now) in
     let so_far = c.loop-into.invariant in
     let link = is_last so_far.0 _ c.in-Some.link (sym so_far.2 ∙ c.in-Some.is) in
     omega (arith, c.from-in-Some.ensures, link.below, so_far.1, law.sized.most_links)
@@ -38,12 +39,12 @@ loop-into-smaller g c =
     let so_far = c.loop-into.invariant in
     let link = is_last so_far.0 _ c.in-Some.link (sym so_far.2 ∙ c.in-Some.is) in
     rw (c.from-in-Some.ensures, c.args.self.now.chained.previous c.in-Some.link (omega (arith, link.below, so_far.1)), c.in-Some.is)
-    (let low = last_low c.in-Some.link (ends_at (g.L.Layout.meaning c.args.self.now.layout.now) ((g.L.Layout.meaning c.args.self.now.layout.now).end c.in-Some.link)) in omega arith)
+    (let low = last_low c.in-Some.link (ends_at (meaning_by g.L.Ways.topology g.L.Rules.turns c.args.self.now.layout.now) ((meaning_by g.L.Ways.topology g.L.Rules.turns c.args.self.now.layout.now).end c.in-Some.link)) in omega arith)
 
 pub loop-into-preserved : goal.loop-into-preserved
 loop-into-preserved g c =
-    let P = problem_in (g.L.Layout.meaning c.args.self.now.layout.now) c.args.self.now.prepared in
-    let law = g.met.L.Layout.lawful c.args.self.now.layout.now in
+    let P = problem_in (meaning_by g.L.Ways.topology g.L.Rules.turns c.args.self.now.layout.now) c.args.self.now.prepared in
+    let law = lawful_by (g.met.L.Ways.ways_law c.args.self.now.layout.now) (g.met.L.Rules.turn_law c.args.self.now.layout.now) in
     let s = g.M.Measure.scale c.args.self.now.measure.now in
     let so_far = c.loop-into.invariant in
     let is = sym so_far.2 ∙ c.in-Some.is in
@@ -67,8 +68,8 @@ loop-into-preserved g c =
 
 pub returns : goal.returns
 returns g c =
-    let P = problem_in (g.L.Layout.meaning c.args.self.now.layout.now) c.args.self.now.prepared in
+    let P = problem_in (meaning_by g.L.Ways.topology g.L.Rules.turns c.args.self.now.layout.now) c.args.self.now.prepared in
     let s = g.M.Measure.scale c.args.self.now.measure.now in
     let so_far = c.loop-into.invariant in
     before_all P (marks_in P c.args.marks.now) c.args.k c.args.hop
-    (g.met.L.Layout.lawful c.args.self.now.layout.now) so_far.0 (sym so_far.2 ∙ c.in_default.is) s (values_in s c.args.values.now) c.loop-into.best so_far.3
+    (lawful_by (g.met.L.Ways.ways_law c.args.self.now.layout.now) (g.met.L.Rules.turn_law c.args.self.now.layout.now)) so_far.0 (sym so_far.2 ∙ c.in_default.is) s (values_in s c.args.values.now) c.loop-into.best so_far.3

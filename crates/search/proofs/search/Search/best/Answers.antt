@@ -1,3 +1,4 @@
+use Rattle.layouts.specs.Layout.{meaning_by}
 use Rattle.std.proofs.Common.{◌≡◌, suc, ◌+◌, sym, subst, arith}
 use Rattle.search.specs.Walks.{problem_in, BestWalk}
 use Rattle.search.specs.Rows.{marks_in, values_in, RowBefore}
@@ -6,7 +7,7 @@ use Rattle.search.proofs.search.Search.best.Goals as goal
 
 pub rounds-preserved : goal.rounds-preserved
 rounds-preserved g c =
-    let P = problem_in (g.L.Layout.meaning c.args.self.now.layout.now) c.args.self.now.prepared in
+    let P = problem_in (meaning_by g.L.Ways.topology g.L.Rules.turns c.args.self.now.layout.now) c.args.self.now.prepared in
     let s = g.M.Measure.scale c.args.self.now.measure.now in
     let marks = marks_in P c.round.new.marks in
     let values = values_in s c.round.new.values in
@@ -18,7 +19,7 @@ rounds-preserved g c =
 
 pub returns-in-Some : goal.returns-in-Some
 returns-in-Some g c =
-    let P = problem_in (g.L.Layout.meaning c.args.self.now.layout.now) c.args.self.now.prepared in
+    let P = problem_in (meaning_by g.L.Ways.topology g.L.Rules.turns c.args.self.now.layout.now) c.args.self.now.prepared in
     let s = g.M.Measure.scale c.args.self.now.measure.now in
     let best = best_arrives s P (marks_in P c.round.new.marks) (values_in s c.round.new.values) c.rounds.k c.round.ensures c.rounds.invariant.1 (g.met.M.Measure.ordered c.args.self.now.measure.now)
     c.in-Some.place c.in-Some.ensures (omega (arith, c.rounds-test.true)) in

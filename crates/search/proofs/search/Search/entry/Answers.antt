@@ -1,3 +1,4 @@
+use Rattle.layouts.specs.Layout.{meaning_by, lawful_by}
 use Rattle.std.proofs.Common.{◌≡◌, suc, ◌+◌, ◌-◌, ◌<◌, length, sym, refl, ap, ◌∙◌, subst, arith}
 use Rattle.std.proofs.lemmas.List.{get_or_read_under}
 use Rattle.std.proofs.lemmas.Nat.{mod_below}
@@ -10,17 +11,17 @@ use Rattle.search.proofs.search.Search.entry.Given.{Over}
 use Rattle.search.proofs.search.Search.entry.Goals as goal
 
 -- the place that a walk comes from is there
-from_there : (g : Over) (c : goal.In-Some-before g) → c.in-Some-before.from < places (problem_in (g.L.Layout.meaning c.args.self.now.layout.now) c.args.self.now.prepared)
+from_there : (g : Over) (c : goal.In-Some-before g) → c.in-Some-before.from < places (problem_in (meaning_by g.L.Ways.topology g.L.Rules.turns c.args.self.now.layout.now) c.args.self.now.prepared)
 from_there g c =
     let prepared = c.args.self.now.prepared in
-    let P = problem_in (g.L.Layout.meaning c.args.self.now.layout.now) prepared in
+    let P = problem_in (meaning_by g.L.Ways.topology g.L.Rules.turns c.args.self.now.layout.now) prepared in
     before_there P (marks_in P c.args.marks.now) (c.args.k - 1) c.hop-hop.result 0 c.in-Some-before.from
     (rw c.hop-hop.ensures (mod_below c.args.place prepared.lanes prepared.wide.0)) c.in-Some-before.ensures.0
 
 pub overflow_cast-result : goal.overflow_cast-result
 overflow_cast-result g c =
-    let P = problem_in (g.L.Layout.meaning c.args.self.now.layout.now) c.args.self.now.prepared in
-    omega (arith, from_there g c, few_places P (g.met.L.Layout.lawful c.args.self.now.layout.now).sized.most_links c.args.self.now.prepared.wide.1)
+    let P = problem_in (meaning_by g.L.Ways.topology g.L.Rules.turns c.args.self.now.layout.now) c.args.self.now.prepared in
+    omega (arith, from_there g c, few_places P (lawful_by (g.met.L.Ways.ways_law c.args.self.now.layout.now) (g.met.L.Rules.turn_law c.args.self.now.layout.now)).sized.most_links c.args.self.now.prepared.wide.1)
 
 pub offset_bounds-values-from : goal.offset_bounds-values-from
 offset_bounds-values-from g c = omega (arith, from_there g c, c.requires.values)
@@ -31,7 +32,7 @@ bounds-values-from g c = omega (arith, from_there g c, c.requires.values)
 pub returns-in-Some-before : goal.returns-in-Some-before
 returns-in-Some-before g c =
     let prepared = c.args.self.now.prepared in
-    let P = problem_in (g.L.Layout.meaning c.args.self.now.layout.now) prepared in
+    let P = problem_in (meaning_by g.L.Ways.topology g.L.Rules.turns c.args.self.now.layout.now) prepared in
     let s = g.M.Measure.scale c.args.self.now.measure.now in
     let marks = marks_in P c.args.marks.now in
     let later : c.args.k ≡ suc (c.args.k - 1) = omega (arith, c.if-k-eq0.false) in
@@ -47,7 +48,7 @@ returns-in-Some-before g c =
 
 pub returns-in-None : goal.returns-in-None
 returns-in-None g c =
-    let P = problem_in (g.L.Layout.meaning c.args.self.now.layout.now) c.args.self.now.prepared in
+    let P = problem_in (meaning_by g.L.Ways.topology g.L.Rules.turns c.args.self.now.layout.now) c.args.self.now.prepared in
     let s = g.M.Measure.scale c.args.self.now.measure.now in
     let later : c.args.k ≡ suc (c.args.k - 1) = omega (arith, c.if-k-eq0.false) in
     subst (λ k. Tells s P (marks_in P c.args.marks.now) k c.args.place 0 c.start-start.result) (sym later)

@@ -1,3 +1,4 @@
+use Rattle.layouts.specs.Layout.{meaning_by}
 use Rattle.std.proofs.Common.{◌≡◌, suc, ◌-◌, refl, ap, ◌∙◌, subst, arith}
 use Rattle.search.specs.Walks.{problem_in}
 use Rattle.search.specs.Rows.{marks_in}
@@ -6,7 +7,7 @@ use Rattle.search.proofs.search.Search.trace.Goals as goal
 
 pub loop-row-preserved : goal.loop-row-preserved
 loop-row-preserved g c =
-    let P = problem_in (g.L.Layout.meaning c.args.self.now.layout.now) c.args.self.now.prepared in
+    let P = problem_in (meaning_by g.L.Ways.topology g.L.Rules.turns c.args.self.now.layout.now) c.args.self.now.prepared in
     let marks = marks_in P c.args.marks.now in
     let row : c.loop-row.row ≡ suc (c.loop-row.row - 1) = omega (arith, c.loop-row-test.true) in
     let at : c.from-at.result - 1 ≡ marks (suc (c.loop-row.row - 1)) c.loop-row.at - 1 =

@@ -4,7 +4,7 @@ use Rattle.std.proofs.lemmas.Bool.Decides.{nat_tests}
 use Rattle.std.specs.Option.{option_map}
 use Rattle.refusals.specs.declared.refusal.Refusal.{Refusal}
 use Rattle.refusals.specs.declared.refusal.Refusal.TheVariants.{TooFewSlots, LaneFull}
-use Rattle.layouts.specs.Layout.{Meaning}
+use Rattle.model.specs.Kinds.{Kind}
 use Rattle.routes.specs.declared.declined.Declined.{Declined}
 use Rattle.routes.specs.declared.hop.Hop.{Hop}
 use Rattle.routes.specs.Routes.{OpenStream}
@@ -37,9 +37,9 @@ module _ {T : Type 0} (S S' : Setting) (g g' : Grid T) (h : Hop) (next : (ℕ ×
   front_is n x None ((k, y) ∷ rest) is = (rest, refl, cc)
 
 -- A grid on a layout with as many links as its lanes have, and slots enough.
-module _ {T : Type 0} (m : Meaning) (t : Tables) (links : m.links ≡ t.lanes.size.links) (xs : List T) where
+module _ {T : Type 0} (kind : Kind) (t : Tables) (links : kind.links ≡ t.lanes.size.links) (xs : List T) where
   abbrev S : Setting
-  S = setting m t (length xs)
+  S = setting kind t (length xs)
 
   abbrev g : Grid T
   g = view t xs
@@ -109,14 +109,14 @@ module _ {T : Type 0} (m : Meaning) (t : Tables) (links : m.links ≡ t.lanes.si
 
     -- a step of an item on its last hop takes the front off
     pub step_pops : None ≡ next_hop h.link (route_of (streams_in t n)) → Handles t.lanes xs (popping SL queues h) None a t'.lanes xs
-        → Makes m t xs (steps h.link h.lane) a t' xs
+        → Makes kind t xs (steps h.link h.lane) a t' xs
     step_pops next handles =
-        lifted m t t' xs xs _ (popping SL queues h) None a same.0 same.1 (stepping_is h ∙ rw (front.1, front.2, sym next) refl) (rw (front.2, sym next) refl) handles
+        lifted kind t t' xs xs _ (popping SL queues h) None a same.0 same.1 (stepping_is h ∙ rw (front.1, front.2, sym next) refl) (rw (front.2, sym next) refl) handles
 
     -- a step of an item that has a next hop takes it there
     pub step_moves : (to : Hop) (xs' : List T) → Some to ≡ next_hop h.link (route_of (streams_in t n)) → holds t.lanes.size to ≡ true
-        → Handles t.lanes xs (moving SL queues h to) (moving_arrival queues h to) a t'.lanes xs' → Makes m t xs (steps h.link h.lane) a t' xs'
+        → Handles t.lanes xs (moving SL queues h to) (moving_arrival queues h to) a t'.lanes xs' → Makes kind t xs (steps h.link h.lane) a t' xs'
     step_moves to xs' next on_grid handles =
         let outcomes : stepping S g h.link h.lane ≡ lift (streams_in t) (moving SL queues h to) =
         stepping_is h ∙ rw (front.1, free_too h to front.1 on_grid, front.2, sym next) (lift-forward (streams_in t) SL queues h (n, x) front.0 (Some to)) in
-        lifted m t t' xs xs' _ (moving SL queues h to) (moving_arrival queues h to) a same.0 same.1 outcomes (rw (front.2, sym next) refl) handles
+        lifted kind t t' xs xs' _ (moving SL queues h to) (moving_arrival queues h to) a same.0 same.1 outcomes (rw (front.2, sym next) refl) handles

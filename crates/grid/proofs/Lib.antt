@@ -4,4 +4,6 @@ pub mod Lifted
 pub mod ItemCalls
 pub mod Editing
 pub mod Seeking
-pub mod Sounding
+pub mod Reaching
+pub mod Stands
+pub mod InTurn

@@ -1,7 +1,7 @@
 -- From a call on the lanes to a call on the grid.
 use Rattle.std.proofs.Common.{◌≡◌, ℕ, List, length, Some, None, Option, sym, refl, ap, ◌∙◌}
 use Rattle.std.proofs.lemmas.Bool.{cond_both}
-use Rattle.layouts.specs.Layout.{Meaning}
+use Rattle.model.specs.Kinds.{Kind}
 use Rattle.routes.specs.declared.declined.Declined.{Declined}
 use Rattle.routes.specs.declared.hop.Hop.{Hop}
 use Rattle.routes.specs.Routes.{OpenStream, streams_of}
@@ -23,9 +23,9 @@ abbrev pub SameButLanes : Tables → Tables → Type 0
 SameButLanes t t' = (t'.streams ≡ t.streams) × (t'.capacity ≡ t.capacity)
 
 -- a call that is declined leaves everything as it was
-pub refused : {T : Type 0} (m : Meaning) (t : Tables) (xs : List T) (c : Call T) (d : Declined)
-    → outcome (setting m t (length xs)) (view t xs) c ≡ refuse d (view t xs) → Makes m t xs c (declined d) t xs
-refused m t xs c d is = record {
+pub refused : {T : Type 0} (kind : Kind) (t : Tables) (xs : List T) (c : Call T) (d : Declined)
+    → outcome (setting kind t (length xs)) (view t xs) c ≡ refuse d (view t xs) → Makes kind t xs c (declined d) t xs
+refused kind t xs c d is = record {
   answer = ap (λ o. o.answer) (sym is);
   grid = ap (λ o. o.grid) (sym is);
   slots = rw is refl;
@@ -35,11 +35,11 @@ refused m t xs c d is = record {
 }
 
 -- a call whose outcome is one on the lanes has that outcome
-pub lifted : {T : Type 0} (m : Meaning) (t t' : Tables) (xs xs' : List T) (c : Call T) (o : Outcome T) (b : Option (Hop × T)) (a : Answer T)
+pub lifted : {T : Type 0} (kind : Kind) (t t' : Tables) (xs xs' : List T) (c : Call T) (o : Outcome T) (b : Option (Hop × T)) (a : Answer T)
     → t'.streams ≡ t.streams → t'.capacity ≡ t.capacity
-    → outcome (setting m t (length xs)) (view t xs) c ≡ lift (streams_in t) o
-    → arrival (view t xs) c ≡ b → Handles t.lanes xs o b a t'.lanes xs' → Makes m t xs c a t' xs'
-lifted m t t' xs xs' c o b a streams capacity is arrives handles = record {
+    → outcome (setting kind t (length xs)) (view t xs) c ≡ lift (streams_in t) o
+    → arrival (view t xs) c ≡ b → Handles t.lanes xs o b a t'.lanes xs' → Makes kind t xs c a t' xs'
+lifted kind t t' xs xs' c o b a streams capacity is arrives handles = record {
   answer = handles.answer ∙ ap (λ o. o.answer) (sym is);
   grid = ap (λ s. with_streams (streams_of s) (queues_of t'.lanes xs')) streams ∙ ap (with_streams (streams_in t)) handles.queues ∙ ap (λ o. o.grid) (sym is);
   slots = handles.slots ∙ rw (is, handles.answer, arrives) refl;

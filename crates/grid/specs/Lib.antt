@@ -1,7 +1,8 @@
 pub mod Placed
 pub mod Views
-pub mod Sound
 pub mod Makes
+pub mod InTurn
+pub mod Laws
 pub mod Blank
 pub mod Routes
 pub mod Seeks

@@ -1,7 +1,7 @@
 -- What a call answers and leaves.
 use Rattle.std.specs.Prelude.{◌≡◌, ℕ, true, List, ◌∷◌, length, Some, None, Ok, Err, Result}
 use Rattle.std.specs.List.{list_all}
-use Rattle.layouts.specs.Layout.{Meaning}
+use Rattle.model.specs.Kinds.{Kind}
 use Rattle.routes.specs.declared.declined.Declined.{Declined}
 use Rattle.routes.specs.declared.hop.Hop.{Hop}
 use Rattle.routes.specs.declared.route.Route.{Route}
@@ -32,12 +32,12 @@ pub record Same (t t' : Tables) : Type 0 where
   pub streams : t'.streams ≡ t.streams
   pub capacity : t'.capacity ≡ t.capacity
 
--- A call has its outcome, on a layout of this meaning: it answers so, and leaves the grid so; the slots are as before but
+-- A call has its outcome, on a grid of this kind: it answers so, and leaves the grid so; the slots are as before but
 -- for the one that is written, if one is; sizes and capacity stay; and if it is declined, all tables stay as they are.
-pub record Makes {T : Type 0} (m : Meaning) (t : Tables) (xs : List T) (c : Call T) (a : Answer T) (t' : Tables) (xs' : List T) : Type 0 where
-  pub answer : a ≡ (outcome (setting m t (length xs)) (view t xs) c).answer
-  pub grid : view t' xs' ≡ (outcome (setting m t (length xs)) (view t xs) c).grid
-  pub slots : xs' ≡ slots_after (setting m t (length xs)) (view t xs) c xs
+pub record Makes {T : Type 0} (k : Kind) (t : Tables) (xs : List T) (c : Call T) (a : Answer T) (t' : Tables) (xs' : List T) : Type 0 where
+  pub answer : a ≡ (outcome (setting k t (length xs)) (view t xs) c).answer
+  pub grid : view t' xs' ≡ (outcome (setting k t (length xs)) (view t xs) c).grid
+  pub slots : xs' ≡ slots_after (setting k t (length xs)) (view t xs) c xs
   pub size : t'.lanes.size ≡ t.lanes.size
   pub capacity : t'.capacity ≡ t.capacity
   pub declined : is_declined a ≡ true → Same t t'
@@ -51,11 +51,11 @@ pub record Starts (t : Tables) (n : ℕ) (h : Hop) : Type 0 where
 
 -- A route is one of these hops, which are all there, and nothing declines a stream of these fields that takes it; or it is
 -- told what does.
-abbrev pub Accepts : Meaning → Tables → Request → List Hop → Result Route Declined → Type 0
-Accepts m t q hops (Ok route) = ((setting m t 0).judge (streams_in t) q hops ≡ None) × (hops_of route ≡ hops) × (list_all (holds t.lanes.size) hops ≡ true)
-Accepts m t q hops (Err d) = (setting m t 0).judge (streams_in t) q hops ≡ Some d
+abbrev pub Accepts : Kind → Tables → Request → List Hop → Result Route Declined → Type 0
+Accepts k t q hops (Ok route) = ((setting k t 0).judge (streams_in t) q hops ≡ None) × (hops_of route ≡ hops) × (list_all (holds t.lanes.size) hops ≡ true)
+Accepts k t q hops (Err d) = (setting k t 0).judge (streams_in t) q hops ≡ Some d
 
 -- A call that is lent no slots has its outcome on the outline, and leaves the lanes and the place of every item.
-pub record Edits (m : Meaning) (t : Tables) (c : Call (Unit {0})) (a : Answer (Unit {0})) (t' : Tables) : Type 0 where
-  pub made : Makes m t (slots_alike t) c a t' (slots_alike t)
+pub record Edits (k : Kind) (t : Tables) (c : Call (Unit {0})) (a : Answer (Unit {0})) (t' : Tables) : Type 0 where
+  pub made : Makes k t (slots_alike t) c a t' (slots_alike t)
   pub lanes : t'.lanes ≡ t.lanes

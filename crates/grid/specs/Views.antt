@@ -1,9 +1,8 @@
 -- The tables of a grid, with lent slots, as the grid in words.
 use Rattle.std.specs.Prelude.{ℕ, List, Option}
-use Rattle.layouts.specs.Layout.{Meaning}
+use Rattle.model.specs.Kinds.{Kind, on_kind}
 use Rattle.routes.specs.Routes.{OpenStream, streams_of}
 use Rattle.model.specs.Grid.{Setting, Grid}
-use Rattle.model.specs.Layouts.{on_layout}
 use Rattle.lanes.specs.Queues.{alike_slots, queues_of}
 use Rattle.grid.specs.declared.tables.Tables.{Tables}
 
@@ -27,6 +26,6 @@ slots_alike t = alike_slots t.lanes.size
 abbrev pub outline : Tables → Grid (Unit {0})
 outline t = view t (slots_alike t)
 
--- the grid's setting on a layout of this meaning, with so many slots lent
-abbrev pub setting : Meaning → Tables → ℕ → Setting
-setting m t slots = on_layout m t.lanes.size.lanes t.lanes.size.depth t.capacity slots
+-- the grid's setting of this kind, with so many slots lent
+abbrev pub setting : Kind → Tables → ℕ → Setting
+setting k t slots = on_kind k t.lanes.size.lanes t.lanes.size.depth t.capacity slots

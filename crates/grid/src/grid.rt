@@ -1,17 +1,26 @@
 // Grids.
 ghost use Rattle.std.specs.Prelude.{◌≡◌};
-ghost use Rattle.grid.specs.Views.{streams_in};
-ghost use Rattle.grid.specs.Sound.{Sound};
+ghost use Rattle.model.specs.Safe.{Reached};
+ghost use Rattle.model.specs.Standing.{AllStand};
+ghost use Rattle.grid.specs.Views.{streams_in, outline};
 
 use crate::tables::Tables;
-use layouts::layout::Layout;
+use layouts::ways::Ways;
+use policies::climbing::Climbing;
+use policies::policy::Policy;
+use std::marker::PhantomData;
 
-/// A grid: a layout, the open streams, and the queues of its lanes. The items stand in slots that the caller lends at each
+/// A grid: ways, the open streams, and the queues of its lanes, by a policy. The items stand in slots that the caller lends at each
 /// call. A call that refuses changes nothing, but that a seek may have written its scratch.
 #[derive(Drop)]
-pub struct Grid<L: Layout> {
-    pub(crate) layout: L,
+pub struct Grid<W: Ways, P: Policy<W> = Climbing> {
+    pub(crate) layout: W,
     pub(crate) tables: Tables,
-    ghost fits: { (L.meaning layout).links ≡ tables.lanes.size.links },
-    ghost sound: { Sound (L.meaning layout) tables.lanes.size.lanes tables.capacity (streams_in tables) },
+    pub(crate) policy: PhantomData<P>,
+    ghost fits: { (P.kind layout).links ≡ tables.lanes.size.links },
+    // openings that each passed the judgement, and closings, lead to the open streams
+    ghost reached: { ∥ Reached ((P.kind layout).judge tables.lanes.size.lanes tables.capacity)
+        (streams_in tables) ∥₁ },
+    // each item that a lane contains is of an open stream whose route takes that lane
+    ghost standing: { AllStand (outline tables) },
 }

@@ -1,6 +1,6 @@
 // Sending and stepping: the calls that move items.
 ghost use Rattle.std.specs.Prelude.{◌≡◌, Ok, Err, length, MatchResult};
-ghost use Rattle.layouts.specs.Layout.{Meaning};
+ghost use Rattle.model.specs.Kinds.{Kind};
 ghost use Rattle.model.specs.Calls.{answer_of, done, sends, steps, open_stream};
 ghost use Rattle.model.specs.Grid.{next_hop, route_of};
 ghost use Rattle.grid.specs.Views.{streams_in};
@@ -15,7 +15,8 @@ use routes::hop::Hop;
 impl Tables {
     // The first hop of an open stream.
     fn first_hop(&self, stream: u16) -> Result<Hop, Refusal>
-        ensures { MatchResult result (λ h. Starts self.now stream h) (λ e. open_stream (streams_in self.now) stream ≡ Err e) }
+        ensures { MatchResult result (λ h. Starts self.now stream h)
+            (λ e. open_stream (streams_in self.now) stream ≡ Err e) }
     {
         let stream = self.stream(stream)?;
         Ok(stream.route.hops()[0])
@@ -36,7 +37,9 @@ impl Tables {
         stream: u16,
         item: T,
     ) -> Result<(), Refusal>
-        ensures made { (m : Meaning) → m.links ≡ self.old.lanes.size.links → Makes m self.old slots.old (sends stream item) (answer_of (λ _. done) result) self.new slots.new }
+        ensures made { (k : Kind) → k.links ≡ self.old.lanes.size.links
+            → Makes k self.old slots.old (sends stream item) (answer_of (λ _. done) result)
+            self.new slots.new }
         ensures streams { self.new.streams ≡ self.old.streams }
     {
         if slots.len() < self.lanes.size().slots() {
@@ -48,7 +51,9 @@ impl Tables {
 
     // Takes the front off a lane, and out of the grid or on to the next hop of its route.
     pub(crate) fn step<T: Copy>(&mut self, slots: &mut [T], hop: Hop) -> Result<Step<T>, Refusal>
-        ensures made { (m : Meaning) → m.links ≡ self.old.lanes.size.links → Makes m self.old slots.old (steps hop.link hop.lane) (answer_of step_answer result) self.new slots.new }
+        ensures made { (k : Kind) → k.links ≡ self.old.lanes.size.links
+            → Makes k self.old slots.old (steps hop.link hop.lane) (answer_of step_answer result)
+            self.new slots.new }
         ensures streams { self.new.streams ≡ self.old.streams }
     {
         let (stream, _) = self.lanes.front(slots, hop)?;

@@ -1,9 +1,10 @@
-// The grid that runs: tables of streams and lanes on any layout, and the calls on them.
+// The grid that runs: tables of streams and lanes on any ways, by any policy, and the calls on them.
 #![tactic(auto)]
 
 mod calls;
 pub mod grid;
 mod items;
+mod law;
 pub mod make;
 mod opens;
 mod questions;

@@ -8,9 +8,11 @@ use crate::grid::Grid;
 use crate::tables::Tables;
 use lanes::size::Size;
 use lanes::tables::Lanes;
-use layouts::layout::Layout;
+use layouts::ways::Ways;
+use policies::policy::Policy;
 use refusals::refusal::Refusal;
 use std::alloc::{AllocError, Global};
+use std::marker::PhantomData;
 
 /// Why no grid is made.
 #[derive(Clone, Copy, PartialEq, Eq, Debug)]
@@ -41,7 +43,8 @@ impl From<AllocError> for MakeError {
 
 // The tables of these lanes, with no stream.
 fn no_stream(lanes: Lanes, capacity: u16) -> Tables
-    ensures { (result.lanes ≡ lanes) × (result.capacity ≡ capacity) × ((n : ℕ) → streams_in result n ≡ None) }
+    ensures { (result.lanes ≡ lanes) × (result.capacity ≡ capacity)
+        × ((n : ℕ) → streams_in result n ≡ None) }
 {
     Tables {
         lanes,
@@ -50,20 +53,21 @@ fn no_stream(lanes: Lanes, capacity: u16) -> Tables
     }
 }
 
-impl<L: Layout + Drop> Grid<L> {
-    /// A grid on a layout, with no stream and no item: so many lanes for each link, so many items to a lane, and one capacity
+impl<W: Ways + Drop, P: Policy<W>> Grid<W, P> {
+    /// A grid on ways, with no stream and no item: so many lanes for each link, so many items to a lane, and one capacity
     /// for every link. No later call allocates.
     ///
     /// Refuses lanes outside 1 to 4 and a depth outside 1 to 8 by `GridSize`, and then a capacity of 0 by `ZeroAmount`. Fails by
     /// `OutOfMemory` where nothing is refused and there is no memory for the tables.
     pub fn blank(
         heap: Global,
-        layout: L,
+        layout: W,
         lanes: u16,
         depth: u16,
         capacity: u16,
-    ) -> Result<Grid<L>, MakeError>
-        ensures made { IfOk result (λ g. (making_refusal lanes depth capacity ≡ None) × BlankTables (L.meaning layout).links lanes depth capacity g.tables) }
+    ) -> Result<Grid<W, P>, MakeError>
+        ensures made { IfOk result (λ g. (making_refusal lanes depth capacity ≡ None)
+            × BlankTables (P.kind layout).links lanes depth capacity g.tables) }
         ensures layout { IfOk result (λ g. g.layout ≡ layout) }
         ensures refused { IfErr result (λ e. NotMade lanes depth capacity e) }
     {
@@ -75,6 +79,7 @@ impl<L: Layout + Drop> Grid<L> {
         Ok(Grid {
             layout,
             tables: no_stream(lanes, capacity),
+            policy: PhantomData,
         })
     }
 }

@@ -7,15 +7,16 @@ ghost use Rattle.grid.specs.Routes.{Puts};
 
 use crate::grid::Grid;
 use lanes::size::Size;
-use layouts::layout::Layout;
+use layouts::ways::Ways;
+use policies::policy::Policy;
 use refusals::refusal::Refusal;
 use routes::hop::Hop;
 use routes::load::link_load;
 use routes::stream::{Request, Stream};
 
-impl<L: Layout> Grid<L> {
-    /// The layout of the grid.
-    pub fn layout(&self) -> &L
+impl<W: Ways, P: Policy<W>> Grid<W, P> {
+    /// The ways of the grid.
+    pub fn layout(&self) -> &W
         ensures { result.now ≡ self.now.layout }
     {
         &self.layout
@@ -53,7 +54,8 @@ impl<L: Layout> Grid<L> {
     /// The route of an open stream: its hops are written into the table, from the front, and the rest of the table is not
     /// touched; answers their count. Refuses as `stream` does.
     pub fn route(&self, stream: u16, table: &mut [Hop; 24]) -> Result<usize, Refusal>
-        ensures { Puts (hops_of_stream (streams_in self.now.tables) stream) table.old result table.new }
+        ensures { Puts (hops_of_stream (streams_in self.now.tables) stream) table.old result
+            table.new }
     {
         let route = self.tables.stream(stream)?.route;
         let hops = route.hops();
@@ -63,7 +65,8 @@ impl<L: Layout> Grid<L> {
 
     /// The load of a link. Refuses a link that is not there by `OffGrid`.
     pub fn link_load(&self, link: u16) -> Result<u32, Refusal>
-        ensures { result ≡ load_on (L.meaning self.now.layout).links (streams_in self.now.tables) link }
+        ensures { result ≡ load_on (P.kind self.now.layout).links
+            (streams_in self.now.tables) link }
     {
         if link >= self.layout.links() {
             return Err(Refusal::OffGrid);
@@ -73,14 +76,16 @@ impl<L: Layout> Grid<L> {
 
     /// How many items a lane contains. Refuses a link or a lane that is not there by `OffGrid`.
     pub fn count(&self, hop: Hop) -> Result<u16, Refusal>
-        ensures { result ≡ count_in (setting (L.meaning self.now.layout) self.now.tables 0) (outline self.now.tables) hop }
+        ensures { result ≡ count_in (setting (P.kind self.now.layout) self.now.tables 0)
+            (outline self.now.tables) hop }
     {
         self.tables.lanes.count(hop)
     }
 
     /// How many items are on the grid.
     pub fn items(&self) -> usize
-        ensures { result ≡ item_count (setting (L.meaning self.now.layout) self.now.tables 0) (outline self.now.tables) }
+        ensures { result ≡ item_count (setting (P.kind self.now.layout) self.now.tables 0)
+            (outline self.now.tables) }
     {
         self.tables.lanes.items()
     }

@@ -47,7 +47,8 @@ impl Tables {
 
     // The open stream of a number.
     pub(crate) fn stream(&self, stream: u16) -> Result<Stream, Refusal>
-        ensures value { result_map_both stream_of (λ e. e) result ≡ open_stream (streams_in self.now) stream }
+        ensures value { result_map_both stream_of (λ e. e) result ≡ open_stream
+            (streams_in self.now) stream }
         ensures entry { IfOk result (λ s. slice_index_or self.now.streams stream None ≡ Some s) }
     {
         if stream >= 64 {
@@ -72,8 +73,10 @@ impl Tables {
     // Puts an entry into the table of streams, for a stream whose hops are there or for none.
     pub(crate) fn put(&mut self, stream: u16, entry: Option<Stream>)
         requires number { stream < stream_count }
-        requires placed { (s : Stream) → entry ≡ Some s → list_all (holds self.old.lanes.size) (hops_of s.route) ≡ true }
-        ensures streams { streams_in self.new ≡ assign (streams_in self.old) stream (option_map stream_of entry) }
+        requires placed { (s : Stream) → entry ≡ Some s → list_all (holds self.old.lanes.size)
+            (hops_of s.route) ≡ true }
+        ensures streams { streams_in self.new ≡ assign (streams_in self.old) stream
+            (option_map stream_of entry) }
         ensures lanes { self.new.lanes ≡ self.old.lanes }
         ensures capacity { self.new.capacity ≡ self.old.capacity }
     {

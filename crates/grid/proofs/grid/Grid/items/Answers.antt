@@ -8,4 +8,4 @@ use Rattle.grid.proofs.grid.Grid.items.Goals as goal
 pub returns : goal.returns
 returns g c =
     let grid = c.args.self.now in
-    c.items.ensures ∙ sym (grid_sum_same_lanes (setting (g.L.Layout.meaning grid.layout) grid.tables 0) (setting_of grid.tables.lanes.size 0) one (outline grid.tables).contents grid.fits refl)
+    c.items.ensures ∙ sym (grid_sum_same_lanes (setting (g.P.Policy.kind grid.layout) grid.tables 0) (setting_of grid.tables.lanes.size 0) one (outline grid.tables).contents grid.fits refl)

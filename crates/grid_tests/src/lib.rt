@@ -1,6 +1,7 @@
 // Tests of the grid, in a crate of their own, since each test is proved like any function.
 #![tactic(auto)]
 
+pub mod hub;
 #[cfg(test)]
 mod seeks;
 #[cfg(test)]

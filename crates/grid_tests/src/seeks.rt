@@ -2,9 +2,10 @@
 use crate::tests::{hop, request, send, step, whole};
 use grid::grid::Grid;
 use grid::step::Step;
-use layouts::layout::Layout;
 use layouts::mesh::Mesh;
+use layouts::rules::Rules;
 use layouts::turn_rule::TurnRule;
+use layouts::ways::Ways;
 use refusals::refusal::Refusal;
 use routes::hop::Hop;
 use routes::stream::Request;
@@ -27,9 +28,9 @@ fn loaded(heap: Global, mesh: Mesh, lanes: u16, loads: &[(u16, u16)]) -> Result<
 }
 
 // A seek for stream 63, which has to take these hops; none where there is no route.
-fn seek<M: Measure>(
+pub(crate) fn seek<L: Rules, M: Measure>(
     rt: &impl Abort,
-    grid: &mut Grid<Mesh>,
+    grid: &mut Grid<L>,
     asked: Request,
     measure: &M,
     values: &mut [M::Value],

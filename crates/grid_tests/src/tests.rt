@@ -3,9 +3,10 @@ use grid::grid::Grid;
 use grid::make::MakeError;
 use grid::step::Step;
 use lanes::strip::Strip;
-use layouts::layout::Layout;
 use layouts::mesh::Mesh;
+use layouts::rules::Rules;
 use layouts::turn_rule::TurnRule;
+use layouts::ways::Ways;
 use refusals::refusal::Refusal;
 use routes::declined::Declined;
 use routes::hop::Hop;
@@ -46,9 +47,9 @@ fn opened(
 }
 
 // A send and a step, with what they have to answer. A test is proved faster where its calls are made in such functions.
-pub(crate) fn send<T: Copy>(
+pub(crate) fn send<L: Rules, T: Copy>(
     rt: &impl Abort,
-    grid: &mut Grid<Mesh>,
+    grid: &mut Grid<L>,
     slots: &mut [T],
     (stream, item): (u16, T),
     answer: Result<(), Refusal>,
@@ -56,9 +57,9 @@ pub(crate) fn send<T: Copy>(
     assert_eq!(rt; grid.send(slots, stream, item), answer, "stream {stream}");
 }
 
-pub(crate) fn step<T: Copy + Debug + PartialEq>(
+pub(crate) fn step<L: Rules, T: Copy + Debug + PartialEq>(
     rt: &impl Abort,
-    grid: &mut Grid<Mesh>,
+    grid: &mut Grid<L>,
     slots: &mut [T],
     lane: Hop,
     answer: Result<Step<T>, Refusal>,
@@ -253,7 +254,7 @@ fn blank_refused(rt: HostRuntime) -> Result<(), Fail> {
         (1, 1, 0, Refusal::ZeroAmount),
     ];
     for (lanes, depth, capacity, refusal) in declined {
-        let grid = Grid::blank(rt.alloc(), mesh, lanes, depth, capacity);
+        let grid = Grid::<Mesh>::blank(rt.alloc(), mesh, lanes, depth, capacity);
         assert_eq!(rt; grid.err(), Some(MakeError::Refused(refusal)));
     }
     Ok(())
@@ -268,7 +269,7 @@ pub(crate) fn whole(refusal: Refusal) -> Declined {
     Declined { refusal, hop: None }
 }
 
-fn at(refusal: Refusal, hop: usize) -> Declined {
+pub(crate) fn at(refusal: Refusal, hop: usize) -> Declined {
     Declined {
         refusal,
         hop: Some(hop),

@@ -10,13 +10,12 @@ use Rattle.layouts.specs.declared.turn_rule.TurnRule.TheVariants.{Xy, NegativeFi
 use Rattle.routes.specs.declared.declined.Declined.{Declined}
 use Rattle.routes.specs.declared.hop.Hop.{Hop}
 use Rattle.routes.specs.declared.stream.Request.{Request}
-use Rattle.routes.specs.declared.stream.Request.{Request}
 use Rattle.routes.specs.Routes.{hop_on}
 use Rattle.routes.specs.Checks.{no_hop}
 use Rattle.model.specs.Grid.{Setting}
 use Rattle.model.specs.Sums.{hops_ahead}
 use Rattle.model.specs.Calls.{Call, opens, closes, sends, steps, Answer, declined, done, moved, out}
-use Rattle.model.specs.Layouts.{on_layout}
+use Rattle.model.specs.Kinds.{on_layout}
 use Rattle.model.specs.Runs.{History, start, ◌▸◌, after, answer_to, handed_out_since}
 use Rattle.codec.specs.declared.number.ByteFault.TheVariants.{Form}
 use Rattle.codec.specs.Numbers.{byte_refusal, number_bytes, number_at}

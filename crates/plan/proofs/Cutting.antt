@@ -6,13 +6,14 @@ use Rattle.std.proofs.lemmas.List.{length-take}
 use Rattle.std.specs.Option.{option_map}
 use Rattle.refusals.specs.declared.refusal.Refusal.TheVariants.{TrailingBytes}
 use Rattle.layouts.specs.declared.turn_rule.TurnRule.{TurnRule}
-use Rattle.layouts.specs.Layout.{Meaning, Lawful}
 use Rattle.layouts.specs.Law.{mesh_lawful}
 use Rattle.layouts.specs.Mesh.{mesh_meaning}
 use Rattle.routes.specs.declared.declined.Declined.{Declined}
 use Rattle.model.specs.Grid.{Setting, Grid, blank}
-use Rattle.model.specs.Layouts.{on_layout}
+use Rattle.model.specs.Kinds.{Kind, by_rules, on_kind}
 use Rattle.model.specs.Calls.{open_refusal, opening}
+use Rattle.model.proofs.Ranks.{lawful_safe}
+use Rattle.model.proofs.Reopening.{rules_reopen}
 use Rattle.codec.specs.declared.head.HeadFault.{HeadFault}
 use Rattle.codec.specs.declared.head.HeadNumbers.{HeadNumbers}
 use Rattle.codec.specs.declared.number.ByteFault.{ByteFault}
@@ -26,7 +27,8 @@ use Rattle.plan.specs.declared.fault.LoadFault.TheVariants as fault
 use Rattle.plan.specs.Loads.{Loading, ends, and_on, once_read, at_end, records_from, if_judged, once_accepted, stream_in}
 use Rattle.plan.specs.Verdicts.{sizes_in, IsAccepted, by_itself, summed, loading_blank, on_mesh, on_own_grid, verdict_of}
 use Rattle.plan.proofs.Accepted.{makeable}
-use Rattle.plan.proofs.Lengths.{record_short, small_route, small_head, head_short}
+use Rattle.plan.proofs.SmallStreams.{LetsInSmall, lets_in_small}
+use Rattle.plan.proofs.Lengths.{record_short, small_head, head_short}
 use Rattle.plan.proofs.Rewriting.{can_open, hops_whole}
 
 -- loading comes to the same where it goes on alike behind a record that is read, and behind one that is opened
@@ -43,18 +45,15 @@ end_cut plan size count place room =
     let test : nat_lt place (length (take size plan)) ≡ nat_lt place (length plan) = grind (arith, nat_tests, length-take size plan) in
     ap (λ more. ends (cond more (Err (fault.Plan (record { refusal = TrailingBytes; place = place }))) (Ok count))) test
 
-module _ (m : Meaning) (law : Lawful m) (lanes depth capacity : ℕ) (few : lanes ≤ 4) (plan : List ℕ) (all : Bytes plan) where
-  abbrev S : Setting
-  S = on_layout m lanes depth capacity 0
-
+module _ (S : Setting) (small : LetsInSmall S.judge) (plan : List ℕ) (all : Bytes plan) where
   -- a record that is opened has small numbers
   opened_short : {T : Type 0} (place : ℕ) (g : Grid T) (e : Entry) → record_at plan place ≡ Ok e → open_refusal S g e.stream e.request e.hops ≡ None → e.next ≤ place + 55
   unfolding record_numbers
   opened_short place g e is none =
-      let can = can_open m lanes depth capacity 0 g e none in
-      let whole = hops_whole plan place e is can.route.count.0 in
+      let can = can_open S small g e none in
+      let whole = hops_whole plan place e is can.small.count.0 in
       let stands = record_stands plan place e all is whole in
-      omega (arith, stands.next, record_short e.stream (stream_in e) (small_route m law lanes capacity few can.streams e.stream (stream_in e) can.number can.route))
+      omega (arith, stands.next, record_short e.stream (stream_in e) can.number can.small)
 
   records_cut : {T : Type 0} (size n k place : ℕ) (g : Grid T) → place + 55 * n + 87 ≤ size → records_from S (take size plan) g k place n ≡ records_from S plan g k place n
   unfolding records_from
@@ -82,19 +81,30 @@ module _ (plan : List ℕ) (all : Bytes plan) where
         let stands = head_stands plan h all is in
         omega (arith, stands.next, head_short (values_of h) h.count.value (sizes_in (values_of h)) small)
 
-    loading_cut : (m : Meaning) → Lawful m → loading_blank m (sizes_in (values_of h)) short ≡ loading_blank m (sizes_in (values_of h)) plan
-    loading_cut m law =
+    loading_cut : (kind : Kind) → LetsInSmall (kind.judge h.lanes.value h.capacity.value)
+        → loading_blank kind (sizes_in (values_of h)) short ≡ loading_blank kind (sizes_in (values_of h)) plan
+    loading_cut kind lets_in =
         let small = small_head (values_of h) h.count.value (sizes_in (values_of h)) accepted in
-        let few : h.lanes.value ≤ 4 = grind (arith, nat_tests, (makeable h accepted).makes) in
+        let S = on_kind kind h.lanes.value h.depth.value h.capacity.value 0 in
         rw (same_head, is, accepted)
-        (records_cut m law h.lanes.value h.depth.value h.capacity.value few plan all 4096 h.count.value 0 h.count.next blank (omega (arith, records_place, small.streams)))
+        (records_cut S lets_in plan all 4096 h.count.value 0 h.count.next blank (omega (arith, records_place, small.streams)))
+
+    -- the mesh keeps the law, so that its grids let in small streams
+    mesh_lets_in : (rule : TurnRule) → LetsInSmall ((by_rules (mesh_meaning rule h.width.value h.height.value)).judge h.lanes.value h.capacity.value)
+    mesh_lets_in rule =
+        let m = mesh_meaning rule h.width.value h.height.value in
+        let make = makeable h accepted in
+        let law = mesh_lawful rule h.width.value h.height.value make.range in
+        let few : h.lanes.value ≤ 4 = grind (arith, nat_tests, make.makes) in
+        lets_in_small law.sized (record { tiles = refl; links = refl }) few (lawful_safe m law h.lanes.value h.depth.value h.capacity.value 0)
+        (rules_reopen m h.lanes.value h.capacity.value)
 
     mesh_cut : (rule : Option TurnRule) → on_mesh short h (option_map (λ rule. mesh_meaning rule h.width.value h.height.value) rule)
         ≡ on_mesh plan h (option_map (λ rule. mesh_meaning rule h.width.value h.height.value) rule)
     mesh_cut None = refl
     mesh_cut (Some rule) =
-        let m = mesh_meaning rule h.width.value h.height.value in
-        ap (λ l. summed m l.opened l.answer) (loading_cut m (mesh_lawful rule h.width.value h.height.value (makeable h accepted).range))
+        let kind = by_rules (mesh_meaning rule h.width.value h.height.value) in
+        ap (λ l. summed kind.links l.opened l.answer) (loading_cut kind (mesh_lets_in rule))
 
   judged_cut : (h : HeadNumbers) (j : Result (Unit {0}) HeadFault) → head_at plan ≡ Ok h → judged (values_of h) h.count.value (sizes_in (values_of h)) ≡ j
       → on_own_grid short (if_judged h j) ≡ on_own_grid plan (if_judged h j)

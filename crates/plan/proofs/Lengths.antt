@@ -2,13 +2,10 @@
 use Rattle.std.proofs.Common.{◌≡◌, ℕ, zero, suc, ◌+◌, ◌*◌, ◌<◌, ◌≤◌, true, is_some, List, [], ◌∷◌, ◌++◌, length, map, Some, None, Ok, Option, refl, ap, arith, length-append}
 use Rattle.std.proofs.lemmas.Bool.Decides.{nat_tests}
 use Rattle.std.proofs.lemmas.Grind.{flat_map-append}
-use Rattle.layouts.specs.Layout.{Meaning, Lawful}
 use Rattle.routes.specs.declared.hop.Hop.{Hop}
 use Rattle.routes.specs.Routes.{OpenStream, hop_at}
 use Rattle.routes.specs.Loads.{stream_count}
-use Rattle.routes.specs.Checks.{terms_on}
-use Rattle.routes.specs.Acceptable.{Acceptable}
-use Rattle.grid.specs.Sound.{Sound}
+use Rattle.model.specs.Grid.{Streams}
 use Rattle.codec.specs.declared.head.GridSizes.{GridSizes}
 use Rattle.codec.specs.declared.head.HeadPart.TheVariants.{Version, Rule, Width, Height, Lanes, Depth, Capacity, Count}
 use Rattle.codec.specs.declared.head.Head.{Head}
@@ -18,6 +15,7 @@ use Rattle.codec.specs.Numbers.{number_bytes}
 use Rattle.codec.specs.Sequences.{numbers_bytes}
 use Rattle.codec.specs.Records.{hop_number, record_numbers}
 use Rattle.plan.specs.Plans.{stream_numbers, numbered, listed, open_streams, records_numbers, plan_bytes}
+use Rattle.plan.proofs.SmallStreams.{SmallStream, AllSmall}
 
 pub at_most_three : (n : ℕ) → length (number_bytes n) ≤ 3
 unfolding number_bytes
@@ -31,43 +29,37 @@ pub two_bytes : (n : ℕ) → n < 16384 → length (number_bytes n) ≤ 2
 unfolding number_bytes
 two_bytes n small = grind (arith, nat_tests)
 
--- The numbers of an open stream are small: each of those that name a tile or the stream takes a byte, each hop at most two.
-pub record SmallStream (n : ℕ) (s : OpenStream) : Type 0 where
-  pub number : n < 64
-  pub source : s.request.source < 64
-  pub target : s.request.target < 64
-  pub count : length s.hops ≤ 24
-  pub hops : (k : ℕ) → k < length s.hops → hop_number (hop_at s.hops k) < 1024
-
-hops_short : (hops : List Hop) → ((k : ℕ) → k < length hops → hop_number (hop_at hops k) < 1024) → length (numbers_bytes (map hop_number hops)) ≤ 2 * length hops
+hops_short : (hops : List Hop) → ((k : ℕ) → k < length hops → ((hop_at hops k).link < 256) × ((hop_at hops k).lane < 4))
+    → length (numbers_bytes (map hop_number hops)) ≤ 2 * length hops
 hops_short [] small = omega arith
 hops_short (h ∷ hops) small =
-    let first : hop_number h < 1024 = small 0 (omega arith) in
+    let first = two_bytes (hop_number h) (omega (arith, small 0 (omega arith))) in
     let more = hops_short hops (λ k less. small (suc k) (omega arith)) in
-    omega (arith, more, two_bytes (hop_number h) (omega arith), length-append (number_bytes (hop_number h)) (numbers_bytes (map hop_number hops)))
+    omega (arith, first, more, length-append (number_bytes (hop_number h)) (numbers_bytes (map hop_number hops)))
 
-pub record_short : (n : ℕ) (s : OpenStream) → SmallStream n s → length (numbers_bytes (stream_numbers (n, s))) ≤ 55
+-- a small stream's record: each number that names a tile or the stream takes a byte, each hop at most two
+pub record_short : (n : ℕ) (s : OpenStream) → n < stream_count → SmallStream s.request s.hops → length (numbers_bytes (stream_numbers (n, s))) ≤ 55
 unfolding record_numbers
-record_short n s small =
-    let hops = hops_short s.hops small.hops in
+record_short n s low small =
+    let hops = hops_short s.hops small.on_grid in
     simp length-append
     (omega (
       arith,
       hops,
       small.count,
-      one_byte n (omega (arith, small.number)),
+      one_byte n (omega arith),
       one_byte s.request.source (omega (arith, small.source)),
       one_byte s.request.target (omega (arith, small.target)),
       at_most_three s.request.demand,
       one_byte (length s.hops) (omega (arith, small.count)),
     ))
 
-module _ (streams : ℕ → Option OpenStream) (small : (n : ℕ) (s : OpenStream) → n < stream_count → streams n ≡ Some s → SmallStream n s) where
+module _ (streams : Streams) (small : AllSmall streams) where
   entry_short : (n : ℕ) (rest : List (ℕ × OpenStream)) (entry : Option OpenStream) → n < stream_count → streams n ≡ entry
       → length (numbers_bytes (records_numbers (numbered n entry ++ rest))) ≤ 55 + length (numbers_bytes (records_numbers rest))
   entry_short n rest None there is = omega arith
   entry_short n rest (Some s) there is =
-      let short = record_short n s (small n s there is) in
+      let short = record_short n s there (small n s is) in
       let split = flat_map-append number_bytes (stream_numbers (n, s)) (records_numbers rest) in
       omega (arith, short, ap length split, length-append (numbers_bytes (stream_numbers (n, s))) (numbers_bytes (records_numbers rest)))
 
@@ -78,28 +70,6 @@ module _ (streams : ℕ → Option OpenStream) (small : (n : ℕ) (s : OpenStrea
   pub records_short : length (numbers_bytes (records_numbers (open_streams streams))) ≤ 3520
   unfolding open_streams
   records_short = listed_short 0 stream_count (omega arith)
-
--- a stream on an acceptable route has small numbers, and so have the streams of a grid
-module _ (m : Meaning) (law : Lawful m) (lanes capacity : ℕ) (few : lanes ≤ 4) where
-  pub small_route : (streams : ℕ → Option OpenStream) (n : ℕ) (s : OpenStream) → n < stream_count → Acceptable (terms_on m lanes capacity streams) s.request s.hops
-      → SmallStream n s
-  small_route streams n s there route = record {
-    number = there;
-    source = omega (arith, route.source, law.sized.most_tiles);
-    target = omega (arith, route.target, law.sized.most_tiles);
-    count = route.count.1;
-    hops = λ k less. let on = route.on_grid k less in omega (arith, on.0, on.1, law.sized.most_links);
-  }
-
-  pub small_stream : (streams : ℕ → Option OpenStream) → Sound m lanes capacity streams → (n : ℕ) (s : OpenStream) → n < stream_count → streams n ≡ Some s → SmallStream n s
-  small_stream streams sound n s there is = small_route (λ _. None) n s there (sound.routes n s is)
-
--- no stream asks for more than a link can bear
-pub demand_borne : (m : Meaning) (lanes capacity : ℕ) (streams : ℕ → Option OpenStream) → Sound m lanes capacity streams → (n : ℕ) (s : OpenStream) → streams n ≡ Some s
-    → s.request.demand ≤ capacity
-demand_borne m lanes capacity streams sound n s is =
-    let route = sound.routes n s is in
-    omega (arith, route.bears 0 (omega (arith, route.count.0)))
 
 rule_small : (n : ℕ) → is_some (rule_numbered n) ≡ true → n < 128
 rule_small n is = grind (arith, nat_tests)
@@ -145,8 +115,8 @@ head_short h count grid small =
       one_byte count (omega (arith, small.streams)),
     ))
 
-pub plan_short : (h : Head) (streams : ℕ → Option OpenStream) (grid : GridSizes) → SmallHead h (length (open_streams streams)) grid
-    → ((n : ℕ) (s : OpenStream) → n < stream_count → streams n ≡ Some s → SmallStream n s) → length (plan_bytes h streams) ≤ 3530
+pub plan_short : (h : Head) (streams : Streams) (grid : GridSizes) → SmallHead h (length (open_streams streams)) grid → AllSmall streams
+    → length (plan_bytes h streams) ≤ 3530
 plan_short h streams grid head small =
     let split = flat_map-append number_bytes (head_numbers h (length (open_streams streams))) (records_numbers (open_streams streams)) in
     omega (

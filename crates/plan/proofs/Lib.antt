@@ -2,8 +2,10 @@ mod HopTables
 pub mod Loading
 pub mod Listing
 mod Putting
+pub mod SmallStreams
 pub mod Lengths
 mod Writing
+pub mod Below
 mod Reloading
 mod Accepted
 mod Checking

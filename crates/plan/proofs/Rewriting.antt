@@ -5,16 +5,12 @@ use Rattle.std.proofs.lemmas.Bool.Decides.{nat_tests}
 use Rattle.std.proofs.lemmas.List.{drop_all, length-map}
 use Rattle.std.proofs.lemmas.Grind.{flat_map-append}
 use Rattle.refusals.specs.declared.refusal.Refusal.TheVariants.{TrailingBytes}
-use Rattle.layouts.specs.Layout.{Meaning}
 use Rattle.routes.specs.declared.declined.Declined.{Declined}
 use Rattle.routes.specs.Routes.{OpenStream}
 use Rattle.routes.specs.Loads.{stream_count}
-use Rattle.routes.specs.Checks.{terms_on, judgement}
-use Rattle.routes.specs.Acceptable.{Acceptable}
 use Rattle.routes.proofs.Firsts.{first_none}
-use Rattle.routes.proofs.Judging.{acceptable}
 use Rattle.model.specs.Grid.{Setting, Grid}
-use Rattle.model.specs.Layouts.{on_layout}
+use Rattle.model.specs.Kinds.{Kind}
 use Rattle.model.specs.Calls.{declines, vacancy, open_refusal, opening}
 use Rattle.grid.specs.declared.tables.Tables.{Tables}
 use Rattle.grid.specs.Views.{streams_in, outline, setting}
@@ -36,24 +32,23 @@ use Rattle.plan.specs.Loads.{Loading, once_read, at_end, records_from, if_judged
 use Rattle.plan.specs.Plans.{stream_numbers, open_streams, records_numbers, plan_bytes}
 use Rattle.plan.specs.RoundTrips.{WrittenBack}
 use Rattle.plan.proofs.Loading.{rest_stays}
+use Rattle.plan.proofs.SmallStreams.{SmallStream, LetsInSmall}
 use Rattle.plan.proofs.Rising.{AllBelow, numbered_stream, open_as_told, streams_opened}
 
--- A record whose stream can be opened: it has a number of the table, and a route that is acceptable with the streams that are open then.
-pub record Opened (m : Meaning) (lanes capacity : ℕ) (e : Entry) : Type 0 where
+-- A record whose stream can be opened: it has a number of the table, and small numbers besides.
+pub record Opened (e : Entry) : Type 0 where
   pub number : e.stream < stream_count
-  pub streams : ℕ → Option OpenStream
-  pub route : Acceptable (terms_on m lanes capacity streams) e.request e.hops
+  pub small : SmallStream e.request e.hops
 
 vacant : (streams : ℕ → Option OpenStream) (n : ℕ) → declines (vacancy streams n) ≡ None → n < stream_count
 vacant streams n none = grind (arith, nat_tests)
 
 -- so it is of a record whose stream is not declined
-pub can_open : {T : Type 0} (m : Meaning) (lanes depth capacity slots : ℕ) (g : Grid T) (e : Entry)
-    → open_refusal (on_layout m lanes depth capacity slots) g e.stream e.request e.hops ≡ None → Opened m lanes capacity e
+pub can_open : {T : Type 0} (S : Setting) → LetsInSmall S.judge → (g : Grid T) (e : Entry) → open_refusal S g e.stream e.request e.hops ≡ None → Opened e
 unfolding open_refusal
-can_open m lanes depth capacity slots g e none =
-    let both = first_none (declines (vacancy g.streams e.stream) ∷ (judgement (terms_on m lanes capacity g.streams) e.request e.hops ∷ [])) none in
-    record { number = vacant g.streams e.stream both.0; streams = g.streams; route = acceptable _ e.request e.hops both.1.0 }
+can_open S small g e none =
+    let both = first_none (declines (vacancy g.streams e.stream) ∷ (S.judge g.streams e.request e.hops ∷ [])) none in
+    record { number = vacant g.streams e.stream both.0; small = small g.streams e.request e.hops both.1.0 }
 
 -- its hops are all read
 pub hops_whole : (plan : List ℕ) (start : ℕ) (e : Entry) → record_at plan start ≡ Ok e → 1 ≤ length e.hops → length e.hops ≡ e.count
@@ -78,34 +73,33 @@ ended plan count place c is =
     [ true ↦ λ test no. cc | false ↦ λ test _. grind (arith, nat_tests, test) ] refl is
 
 -- Records that are opened stand as they are written, up to the end of the plan.
-pub record Stand (m : Meaning) (lanes capacity : ℕ) (plan : List ℕ) (place n : ℕ) (opened : List Entry) : Type 0 where
+pub record Stand (plan : List ℕ) (place n : ℕ) (opened : List Entry) : Type 0 where
   pub bytes : drop place plan ≡ numbers_bytes (records_numbers (map numbered_stream opened))
   pub count : length opened ≡ n
-  pub each : All (Opened m lanes capacity) opened
+  pub each : All Opened opened
 
-module _ (m : Meaning) (lanes depth capacity slots : ℕ) (plan : List ℕ) (all : Bytes plan) where
-  one_stands : (place n : ℕ) (e : Entry) (more : List Entry) → record_at plan place ≡ Ok e → Opened m lanes capacity e → Stand m lanes capacity plan e.next n more
-      → Stand m lanes capacity plan place (suc n) (e ∷ more)
+module _ (S : Setting) (small : LetsInSmall S.judge) (plan : List ℕ) (all : Bytes plan) where
+  one_stands : (place n : ℕ) (e : Entry) (more : List Entry) → record_at plan place ≡ Ok e → Opened e → Stand plan e.next n more
+      → Stand plan place (suc n) (e ∷ more)
   unfolding record_numbers
   one_stands place n e more is opened stand =
-      let first = record_stands plan place e all is (hops_whole plan place e is opened.route.count.0) in
+      let first = record_stands plan place e all is (hops_whole plan place e is opened.small.count.0) in
       record {
         bytes = first.bytes ∙ (ap (λ rest. numbers_bytes (stream_numbers (numbered_stream e)) ++ rest) stand.bytes ∙ sym (flat_map-append number_bytes (stream_numbers (numbered_stream e)) (records_numbers (map numbered_stream more))));
         count = ap suc stand.count;
         each = (opened, stand.each);
       }
 
-  pub records_stand : {T : Type 0} (n k place : ℕ) (g : Grid T) (c : ℕ) → (records_from (on_layout m lanes depth capacity slots) plan g k place n).answer ≡ Ok c
-      → Stand m lanes capacity plan place n (records_from (on_layout m lanes depth capacity slots) plan g k place n).opened
+  pub records_stand : {T : Type 0} (n k place : ℕ) (g : Grid T) (c : ℕ) → (records_from S plan g k place n).answer ≡ Ok c
+      → Stand plan place n (records_from S plan g k place n).opened
   unfolding records_from
   records_stand zero k place g c is = record { bytes = drop_all place plan (ended plan k place c is); count = refl; each = tt }
   records_stand (suc n) k place g c is =
-      let S = on_layout m lanes depth capacity slots in
       let read = read_on k (record_at plan place) _ c is in
       let e = read.0 in
       let on = opened_on k e (open_refusal S g e.stream e.request e.hops) _ c read.2 in
       let rest = records_stand n (k + 1) e.next (opening S g e.stream e.request e.hops).grid c on.1 in
-      rw (read.1, on.0) (one_stands place n e _ read.1 (can_open m lanes depth capacity slots g e on.0) (rw on.0 at rest))
+      rw (read.1, on.0) (one_stands place n e _ read.1 (can_open S small g e on.0) (rw on.0 at rest))
 
 judged_on : (g h : HeadNumbers) (j : Result (Unit {0}) HeadFault) → if_judged g j ≡ Ok h → (g ≡ h) × (j ≡ Ok tt)
 judged_on g h (Ok a) is = (cc, refl)
@@ -124,23 +118,22 @@ headed S plan g (Ok h) c is = (h, refl, is)
 headed S plan g (Err f) c is = cc
 
 -- A plan that loads to its end: its head is accepted, and behind it stand the records that are opened.
-pub record Loaded (m : Meaning) (t : Tables) (plan : List ℕ) (opened : List Entry) : Type 0 where
+pub record Loaded (sizes : GridSizes) (plan : List ℕ) (opened : List Entry) : Type 0 where
   pub head : HeadNumbers
   pub is : head_at plan ≡ Ok head
-  pub judged : judged (values_of head) head.count.value (sizes_of t) ≡ Ok tt
+  pub judged : judged (values_of head) head.count.value sizes ≡ Ok tt
   pub bytes : plan ≡ numbers_bytes (head_numbers (values_of head) head.count.value ++ records_numbers (map numbered_stream opened))
   pub count : length opened ≡ head.count.value
-  pub each : All (Opened m t.lanes.size.lanes t.capacity) opened
+  pub each : All Opened opened
 
-pub loaded : (m : Meaning) (t : Tables) (plan : List ℕ) → Bytes plan → (c : ℕ) → (loading_on m t plan).answer ≡ Ok c
-    → Loaded m t plan (loading_on m t plan).opened
+pub loaded : (kind : Kind) (t : Tables) → LetsInSmall (setting kind t 0).judge → (plan : List ℕ) → Bytes plan → (c : ℕ)
+    → (loading_on kind t plan).answer ≡ Ok c → Loaded (sizes_of t) plan (loading_on kind t plan).opened
 unfolding head_numbers
-loaded m t plan all c is =
-    let size = t.lanes.size in
-    let head = headed (setting m t 0) plan (outline t) (accepted_head (sizes_of t) plan) c is in
+loaded kind t small plan all c is =
+    let head = headed (setting kind t 0) plan (outline t) (accepted_head (sizes_of t) plan) c is in
     let h = head.0 in
     let accepted = accepted (sizes_of t) (head_at plan) h head.1 in
-    let stand = records_stand m size.lanes size.depth t.capacity 0 plan all h.count.value 0 h.count.next (outline t) c head.2 in
+    let stand = records_stand (setting kind t 0) small plan all h.count.value 0 h.count.next (outline t) c head.2 in
     let front = head_stands plan h all accepted.0 in
     rw head.1
     (record {
@@ -156,23 +149,24 @@ loaded m t plan all c is =
     })
 
 -- numbers of the table
-all_below : (m : Meaning) (lanes capacity : ℕ) (es : List Entry) → All (Opened m lanes capacity) es → AllBelow stream_count es
-all_below m lanes capacity [] each = tt
-all_below m lanes capacity (e ∷ more) each = (each.0.number, all_below m lanes capacity more each.1)
+all_below : (es : List Entry) → All Opened es → AllBelow stream_count es
+all_below [] each = tt
+all_below (e ∷ more) each = (each.0.number, all_below more each.1)
 
 fits : (size : ℕ) (bytes : List ℕ) → length bytes ≤ size → fitted size bytes ≡ Ok bytes
 fits size bytes room = let test : nat_lt size (length bytes) ≡ false = grind (arith, nat_tests) in rw test refl
 
-pub written_back : (m : Meaning) (t t' : Tables) (plan : List ℕ) → Bytes plan → (c : ℕ) → Loads m t plan (Ok c) t' → WrittenBack m t plan t'
-written_back m t t' plan all c loads none rise =
-    let opened = (loading_on m t plan).opened in
-    let whole = loaded m t plan all c (sym loads.0) in
+pub written_back : (kind : Kind) (t t' : Tables) → LetsInSmall (setting kind t 0).judge → (plan : List ℕ) → Bytes plan → (c : ℕ)
+    → Loads kind t plan (Ok c) t' → WrittenBack kind t plan t'
+written_back kind t t' small plan all c loads none rise =
+    let opened = (loading_on kind t plan).opened in
+    let whole = loaded kind t small plan all c (sym loads.0) in
     let h = whole.head in
     let listed : open_streams (streams_in t') ≡ map numbered_stream opened =
-    ap open_streams (streams_opened m opened t t' loads.1) ∙ open_as_told opened (streams_in t) rise (all_below _ _ _ opened whole.each) none in
+    ap open_streams (streams_opened kind opened t t' loads.1) ∙ open_as_told opened (streams_in t) rise (all_below opened whole.each) none in
     let count : length (open_streams (streams_in t')) ≡ h.count.value = ap length listed ∙ (length-map opened numbered_stream ∙ whole.count) in
     let judged : judged (values_of h) (length (open_streams (streams_in t'))) (sizes_of t') ≡ Ok tt =
-    let stays = rest_stays m opened t t' loads.1 in
+    let stays = rest_stays kind opened t t' loads.1 in
     rw (count, stays.0, stays.1) whole.judged in
     let bytes : plan_bytes (values_of h) (streams_in t') ≡ plan = rw (count, listed) (sym whole.bytes) in
     (h, whole.is, λ size room. rw (judged, bytes) (fits size plan room))

@@ -2,7 +2,7 @@
 use Rattle.std.proofs.Common.{◌≡◌, ℕ, zero, suc, ◌+◌, ◌<◌, ◌≤◌, List, [], ◌∷◌, map, Some, None, Option, refl, ap, ◌∙◌, subst, ⊎_elim, arith}
 use Rattle.std.specs.List.{AllByRecursion as All}
 use Rattle.std.proofs.lemmas.Bool.{cases_eq}
-use Rattle.layouts.specs.Layout.{Meaning}
+use Rattle.model.specs.Kinds.{Kind}
 use Rattle.routes.specs.Routes.{OpenStream, streams_of}
 use Rattle.routes.specs.Loads.{stream_count}
 use Rattle.model.specs.Grid.{assign}
@@ -73,8 +73,8 @@ unfolding open_streams
 open_as_told es streams rise below none = listed_as_told stream_count 0 stream_count es streams refl (rising stream_count es rise below) (λ j over. none j)
 
 -- the records that were opened tell which streams are open then
-module _ (m : Meaning) where
-  pub streams_opened : (es : List Entry) (t t' : Tables) → Opens m t es t' → streams_in t' ≡ streams_after (streams_in t) es
+module _ (kind : Kind) where
+  pub streams_opened : (es : List Entry) (t t' : Tables) → Opens kind t es t' → streams_in t' ≡ streams_after (streams_in t) es
   streams_opened [] t t' opens = ap streams_of opens.streams
   streams_opened (e ∷ more) t t' opens =
-      streams_opened more opens.0 t' opens.2 ∙ ap (λ g. streams_after g.streams more) (outline_is m t opens.0 e.stream e.request e.hops opens.1)
+      streams_opened more opens.0 t' opens.2 ∙ ap (λ g. streams_after g.streams more) (outline_is kind t opens.0 e.stream e.request e.hops opens.1)

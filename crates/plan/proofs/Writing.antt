@@ -77,7 +77,8 @@ module _ (h : Head) (streams : ℕ → Option OpenStream) (k : ℕ) (items : Lis
         length-append (numbers_bytes (stream_numbers (k, s))) (numbers_bytes (records_numbers rest)),
       )
 
-pub hops_fit : (hops : List Hop) → ((k : ℕ) → k < length hops → hop_number (hop_at hops k) < 1024) → list_all (λ h. nat_le (hop_number h) 65535) hops ≡ true
+pub hops_fit : (hops : List Hop) → ((k : ℕ) → k < length hops → ((hop_at hops k).link < 256) × ((hop_at hops k).lane < 4))
+    → list_all (λ h. nat_le (hop_number h) 65535) hops ≡ true
 hops_fit [] small = refl
 hops_fit (h ∷ hops) small =
     let first : nat_le (hop_number h) 65535 ≡ true = grind (arith, nat_tests, small 0 (omega arith)) in

@@ -1,11 +1,10 @@
 -- What loading a plan comes to.
 use Rattle.std.specs.Prelude.{◌≡◌, ℕ, zero, suc, ◌+◌, cond, List, [], ◌∷◌, length, Some, None, Ok, Err, Option, Result, nat_lt}
 use Rattle.refusals.specs.declared.refusal.Refusal.TheVariants.{TrailingBytes}
-use Rattle.layouts.specs.Layout.{Meaning}
 use Rattle.routes.specs.declared.declined.Declined.{Declined}
 use Rattle.routes.specs.Routes.{OpenStream}
 use Rattle.model.specs.Grid.{Setting, Grid, assign}
-use Rattle.model.specs.Layouts.{on_layout}
+use Rattle.model.specs.Kinds.{Kind, on_kind}
 use Rattle.model.specs.Calls.{Call, opens, declined, done, open_refusal, opening}
 use Rattle.grid.specs.declared.tables.Tables.{Tables}
 use Rattle.grid.specs.Views.{outline}
@@ -73,9 +72,9 @@ abbrev pub behind_head : {T : Type 0} → Setting → List ℕ → Grid T → Re
 behind_head S plan g (Ok h) = records_from S plan g 0 h.count.next h.count.value
 behind_head S plan g (Err f) = ends (Err f)
 
--- a plan is loaded on a grid of a layout and of these sizes; no slots are lent for it
-abbrev pub loading : {T : Type 0} → Meaning → GridSizes → Grid T → List ℕ → Loading
-loading m sizes g plan = behind_head (on_layout m sizes.lanes sizes.depth sizes.capacity 0) plan g (accepted_head sizes plan)
+-- a plan is loaded on a grid of a kind and of these sizes; no slots are lent for it
+abbrev pub loading : {T : Type 0} → Kind → GridSizes → Grid T → List ℕ → Loading
+loading kind sizes g plan = behind_head (on_kind kind sizes.lanes sizes.depth sizes.capacity 0) plan g (accepted_head sizes plan)
 
 -- the stream of a record
 abbrev pub stream_in : Entry → OpenStream
@@ -92,26 +91,26 @@ streams_after streams (e ∷ more) = streams_after (assign streams e.stream (Som
 abbrev pub sizes_of : Tables → GridSizes
 sizes_of t = record { lanes = t.lanes.size.lanes; depth = t.lanes.size.depth; capacity = t.capacity }
 
-abbrev pub loading_on : Meaning → Tables → List ℕ → Loading
-loading_on m t plan = loading m (sizes_of t) (outline t) plan
+abbrev pub loading_on : Kind → Tables → List ℕ → Loading
+loading_on kind t plan = loading kind (sizes_of t) (outline t) plan
 
 -- the opening of a record's stream
 abbrev pub opening_of : Entry → Call (Unit {0})
 opening_of e = opens e.stream e.request e.hops
 
 -- a record's stream is opened, or declined, which is told with the record's number
-abbrev pub OpensRecord : Meaning → Tables → ℕ → Entry → Result (Unit {0}) (InRecord Declined) → Tables → Type 0
-OpensRecord m t k e (Ok a) t' = Edits m t (opening_of e) done t'
-OpensRecord m t k e (Err f) t' = (f.number ≡ k) × Edits m t (opening_of e) (declined f.fault) t'
+abbrev pub OpensRecord : Kind → Tables → ℕ → Entry → Result (Unit {0}) (InRecord Declined) → Tables → Type 0
+OpensRecord kind t k e (Ok a) t' = Edits kind t (opening_of e) done t'
+OpensRecord kind t k e (Err f) t' = (f.number ≡ k) × Edits kind t (opening_of e) (declined f.fault) t'
 
 -- records are opened one after another
-abbrev pub Opens : Meaning → Tables → List Entry → Tables → Type 0
-Opens m t [] t' = Same t t'
-Opens m t (e ∷ more) t' = (between : Tables) × Edits m t (opening_of e) done between × Opens m between more t'
+abbrev pub Opens : Kind → Tables → List Entry → Tables → Type 0
+Opens kind t [] t' = Same t t'
+Opens kind t (e ∷ more) t' = (between : Tables) × Edits kind t (opening_of e) done between × Opens kind between more t'
 
 -- loading has come to its answer, and all of the grid is as the openings of its records leave it, also where a fault is behind them
-abbrev pub ComesTo : Meaning → Tables → Loading → Result ℕ LoadFault → Tables → Type 0
-ComesTo m t l r t' = (r ≡ l.answer) × Opens m t l.opened t'
+abbrev pub ComesTo : Kind → Tables → Loading → Result ℕ LoadFault → Tables → Type 0
+ComesTo kind t l r t' = (r ≡ l.answer) × Opens kind t l.opened t'
 
-abbrev pub Loads : Meaning → Tables → List ℕ → Result ℕ LoadFault → Tables → Type 0
-Loads m t plan r t' = ComesTo m t (loading_on m t plan) r t'
+abbrev pub Loads : Kind → Tables → List ℕ → Result ℕ LoadFault → Tables → Type 0
+Loads kind t plan r t' = ComesTo kind t (loading_on kind t plan) r t'

@@ -1,7 +1,6 @@
 -- What a grid bears.
 use Rattle.std.specs.Prelude.{ℕ, zero, suc, List, length, max, Option}
 use Rattle.std.specs.List.{sum_by}
-use Rattle.layouts.specs.Layout.{Meaning}
 use Rattle.routes.specs.Routes.{OpenStream}
 use Rattle.routes.specs.Loads.{load}
 use Rattle.plan.specs.declared.line.Summary.{Summary}
@@ -16,10 +15,10 @@ abbrev pub largest_below : ℕ → (ℕ → ℕ) → ℕ
 largest_below zero f = 0
 largest_below (suc n) f = max (largest_below n f) (f n)
 
--- the count of open streams, of the hops of their routes, and the largest load of a link
-abbrev pub summary_of : Meaning → (ℕ → Option OpenStream) → Summary
-summary_of m streams = record {
+-- the count of open streams, of the hops of their routes, and the largest load of a link, of so many
+abbrev pub summary_of : ℕ → (ℕ → Option OpenStream) → Summary
+summary_of links streams = record {
   streams = length (open_streams streams);
   hops = hop_count (open_streams streams);
-  load = largest_below m.links (load streams);
+  load = largest_below links (load streams);
 }

@@ -5,6 +5,7 @@ use Rattle.refusals.specs.declared.refusal.Refusal.TheVariants.{BadHead}
 use Rattle.layouts.specs.Layout.{Meaning}
 use Rattle.layouts.specs.Mesh.{mesh_meaning}
 use Rattle.model.specs.Grid.{blank}
+use Rattle.model.specs.Kinds.{Kind, by_rules}
 use Rattle.codec.specs.declared.head.GridSizes.{GridSizes}
 use Rattle.codec.specs.declared.head.Head.{Head}
 use Rattle.codec.specs.declared.head.HeadNumbers.{HeadNumbers}
@@ -40,19 +41,22 @@ by_itself plan (Err f) = Err (fault.HeadBytes f)
 abbrev pub own_head : List ℕ → Result HeadNumbers LoadFault
 own_head plan = by_itself plan (head_at plan)
 
--- what the grid bears once these records are opened on a blank one, or the fault at which loading ended
-abbrev pub summed : Meaning → List Entry → Result ℕ LoadFault → Result Summary LoadFault
-summed m opened (Ok count) = Ok (summary_of m (streams_after (λ _. None) opened))
-summed m opened (Err f) = Err f
+-- what the grid bears once these records are opened on a blank one of so many links, or the fault at which loading ended
+abbrev pub summed : ℕ → List Entry → Result ℕ LoadFault → Result Summary LoadFault
+summed links opened (Ok count) = Ok (summary_of links (streams_after (λ _. None) opened))
+summed links opened (Err f) = Err f
 
--- loading a plan on a blank grid of a layout and these sizes
-abbrev pub loading_blank : Meaning → GridSizes → List ℕ → Loading
-loading_blank m sizes plan = loading {T = Unit {0}} m sizes blank plan
+-- loading a plan on a blank grid of a kind and these sizes
+abbrev pub loading_blank : Kind → GridSizes → List ℕ → Loading
+loading_blank k sizes plan = loading {T = Unit {0}} k sizes blank plan
+
+abbrev pub verdict_on : Kind → GridSizes → List ℕ → Result Summary LoadFault
+verdict_on k sizes plan = summed k.links (loading_blank k sizes plan).opened (loading_blank k sizes plan).answer
 
 -- the verdict on a plan whose head is accepted; such a head has a rule, so the first case never arises
 abbrev pub on_mesh : List ℕ → HeadNumbers → Option Meaning → Result Summary LoadFault
 on_mesh plan h None = Err (fault.Plan (record { refusal = BadHead; place = h.rule.place }))
-on_mesh plan h (Some m) = summed m (loading_blank m (sizes_in (values_of h)) plan).opened (loading_blank m (sizes_in (values_of h)) plan).answer
+on_mesh plan h (Some m) = verdict_on (by_rules m) (sizes_in (values_of h)) plan
 
 abbrev pub on_own_grid : List ℕ → Result HeadNumbers LoadFault → Result Summary LoadFault
 on_own_grid plan (Ok h) = on_mesh plan h (mesh_in (values_of h))

@@ -50,8 +50,10 @@ fn own_head(plan: &[u8]) -> Result<HeadNumbers, LoadFault>
 // A blank grid of the mesh and the sizes that an accepted head asks for.
 fn blank_grid(heap: Global, numbers: &HeadNumbers) -> Result<Grid<Mesh>, AllocError>
     requires { IsAccepted numbers.now }
-    ensures layout { IfOk result (λ g. mesh_in (values_of numbers.now) ≡ Some (meaning_of g.layout)) }
-    ensures blank { IfOk result (λ g. BlankTables (meaning_of g.layout).links numbers.now.lanes.value numbers.now.depth.value numbers.now.capacity.value g.tables) }
+    ensures layout { IfOk result
+        (λ g. mesh_in (values_of numbers.now) ≡ Some (meaning_of g.layout)) }
+    ensures blank { IfOk result (λ g. BlankTables (meaning_of g.layout).links
+        numbers.now.lanes.value numbers.now.depth.value numbers.now.capacity.value g.tables) }
 {
     let head = numbers.head();
     // an accepted head asks for a mesh and a grid that can be made, so only memory can be wanting

@@ -145,7 +145,8 @@ impl fmt::Display for Summary {
 ///
 /// Refuses a buffer that is too short by `BufferTooShort`, and then writes nothing. A buffer of `LONGEST_LINE` bytes is never too short.
 pub fn compose(verdict: &Verdict, buffer: &mut [u8]) -> Result<usize, Refusal>
-    ensures made { Puts (fitted (length buffer.old) (line_text verdict.now)) buffer.old result buffer.new }
+    ensures made { Puts (fitted (length buffer.old) (line_text verdict.now))
+        buffer.old result buffer.new }
     ensures short { IfOk result (λ count. count ≤ 90) }
     ensures room { 90 ≤ length buffer.old → IsOk result }
 {

@@ -11,13 +11,14 @@ use codec::hop::hop_of;
 use codec::number::{ByteFault, read_number};
 use codec::record::{Record, hops_read, read_record};
 use grid::grid::Grid;
-use layouts::layout::Layout;
+use layouts::ways::Ways;
+use policies::policy::Policy;
 use refusals::refusal::Refusal;
 use routes::declined::Declined;
 use routes::hop::Hop;
 
 // What a head has to fit.
-pub(crate) fn sizes_of<L: Layout>(grid: &Grid<L>) -> GridSizes
+pub(crate) fn sizes_of<W: Ways, P: Policy<W>>(grid: &Grid<W, P>) -> GridSizes
     ensures value { result ≡ sizes_of grid.now.tables }
     ensures bound { result.capacity ≤ 65535 }
 {
@@ -62,7 +63,8 @@ fn hops_in(bytes: &[u8], count: u16) -> [Hop; 24]
 
 // Reads the record of a number, which starts at a byte of a plan.
 fn read(plan: &[u8], number: usize, place: usize) -> Result<Record<'_>, InRecord<ByteFault>>
-    ensures { MatchResult result (λ told. ReadsRecord plan.now place (Ok told)) (λ f. (f.number ≡ number) × (record_at plan.now place ≡ Err f.fault)) }
+    ensures { MatchResult result (λ told. ReadsRecord plan.now place (Ok told))
+        (λ f. (f.number ≡ number) × (record_at plan.now place ≡ Err f.fault)) }
 {
     // a match and not `map_err`, since what a record holds of the plan is lost in a closure
     match read_record(plan, place) {
@@ -72,13 +74,14 @@ fn read(plan: &[u8], number: usize, place: usize) -> Result<Record<'_>, InRecord
 }
 
 // Opens the stream of the record of a number.
-fn open<L: Layout>(
-    grid: &mut Grid<L>,
+fn open<W: Ways, P: Policy<W>>(
+    grid: &mut Grid<W, P>,
     number: usize,
     told: Record<'_>,
 ) -> Result<(), InRecord<Declined>>
     requires { behind told.hops.now 0 (hops_read told.count) ≡ Ok (length told.hops.now) }
-    ensures made { OpensRecord (L.meaning grid.old.layout) grid.old.tables number (entry_of told.entry) result grid.new.tables }
+    ensures made { OpensRecord (P.kind grid.old.layout) grid.old.tables number
+        (entry_of told.entry) result grid.new.tables }
     ensures layout { grid.new.layout ≡ grid.old.layout }
 {
     let count = hops_read(told.count);
@@ -98,10 +101,11 @@ fn open<L: Layout>(
 ///
 /// A plan that has loaded on a grid without streams, its streams in rising number, is what `write` writes of the grid then. One that has loaded has at
 /// most 3530 bytes.
-pub fn load<L: Layout>(grid: &mut Grid<L>, plan: &[u8]) -> Result<usize, LoadFault>
-    ensures made { Loads (L.meaning grid.old.layout) grid.old.tables plan.now result grid.new.tables }
+pub fn load<W: Ways, P: Policy<W>>(grid: &mut Grid<W, P>, plan: &[u8]) -> Result<usize, LoadFault>
+    ensures made { Loads (P.kind grid.old.layout) grid.old.tables plan.now result grid.new.tables }
     ensures layout { grid.new.layout ≡ grid.old.layout }
-    ensures written_back { IfOk result (λ _. WrittenBack (L.meaning grid.old.layout) grid.old.tables plan.now grid.new.tables) }
+    ensures written_back { IfOk result
+        (λ _. WrittenBack (P.kind grid.old.layout) grid.old.tables plan.now grid.new.tables) }
     ensures short { IfOk result (λ _. length plan.now ≤ 3530) }
 {
     let head = accepted_head(plan, sizes_of(grid))?;

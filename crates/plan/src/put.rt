@@ -76,7 +76,8 @@ fn hop_number(hop: Hop) -> u16
 
 // Writes the numbers of hops.
 fn put_hops(plan: &mut PlanBytes, hops: &[Hop])
-    requires room { length plan.old.items + length (numbers_bytes (map hop_number hops.now)) ≤ 3530 }
+    requires room { length plan.old.items
+        + length (numbers_bytes (map hop_number hops.now)) ≤ 3530 }
     requires small { list_all (λ h. nat_le (hop_number h) 65535) hops.now ≡ true }
     ensures { plan.new.items ≡ plan.old.items ++ numbers_bytes (map hop_number hops.now) }
 {
@@ -88,9 +89,11 @@ fn put_hops(plan: &mut PlanBytes, hops: &[Hop])
 // Writes the record of a stream.
 #[tactic(auto, unfolding(codec::specs::Records::record_numbers))]
 pub(crate) fn put_record(plan: &mut PlanBytes, number: u16, stream: &Stream)
-    requires room { length plan.old.items + length (numbers_bytes (stream_numbers (number, stream_of stream.now))) ≤ 3530 }
+    requires room { length plan.old.items
+        + length (numbers_bytes (stream_numbers (number, stream_of stream.now))) ≤ 3530 }
     requires small { list_all (λ h. nat_le (hop_number h) 65535) (hops_of stream.now.route) ≡ true }
-    ensures { plan.new.items ≡ plan.old.items ++ numbers_bytes (stream_numbers (number, stream_of stream.now)) }
+    ensures { plan.new.items
+        ≡ plan.old.items ++ numbers_bytes (stream_numbers (number, stream_of stream.now)) }
 {
     let request = stream.request;
     let hops = stream.route.hops();

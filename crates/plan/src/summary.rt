@@ -9,7 +9,8 @@ ghost use Rattle.plan.specs.Summaries.{hop_count, largest_below, summary_of};
 use crate::line::Summary;
 use crate::listed::open_count;
 use grid::grid::Grid;
-use layouts::layout::Layout;
+use layouts::ways::Ways;
+use policies::policy::Policy;
 use routes::load::link_load;
 use routes::stream::Stream;
 
@@ -37,8 +38,9 @@ fn largest_load(streams: &[Option<Stream>; 64], links: u16) -> u32
 }
 
 /// What a grid bears: how many streams are open, how many hops their routes have together, and the largest load of a link.
-pub fn summary<L: Layout>(grid: &Grid<L>) -> Summary
-    ensures { result ≡ summary_of (L.meaning grid.now.layout) (streams_in grid.now.tables) }
+pub fn summary<W: Ways, P: Policy<W>>(grid: &Grid<W, P>) -> Summary
+    ensures { result
+        ≡ summary_of (W.topology grid.now.layout).links (streams_in grid.now.tables) }
 {
     let streams = grid.streams();
     Summary {

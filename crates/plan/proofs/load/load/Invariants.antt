@@ -7,4 +7,5 @@ use Rattle.plan.proofs.load.load.Given as goal
 abbrev pub invariant-loop-number : goal.invariant-loop-number
 invariant-loop-number g l =
     (l.grid.layout ≡ l.fn.grid.layout)
-    × Left (g.L.Layout.meaning l.fn.grid.layout) l.fn.grid.tables (loading_on (g.L.Layout.meaning l.fn.grid.layout) l.fn.grid.tables l.plan) l.plan l.grid.tables l.number l.place (l.count - l.number)
+    × Left (g.P.Policy.kind l.fn.grid.layout) l.fn.grid.tables (loading_on (g.P.Policy.kind l.fn.grid.layout) l.fn.grid.tables l.plan)
+    l.plan l.grid.tables l.number l.place (l.count - l.number)

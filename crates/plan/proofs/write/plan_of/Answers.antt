@@ -1,9 +1,9 @@
-use Rattle.std.proofs.Common.{◌≡◌, ℕ, ◌+◌, ◌<◌, length, Some, None, sym, ap, subst, arith}
-use Rattle.routes.specs.Routes.{OpenStream, stream_of}
-use Rattle.routes.specs.Loads.{stream_count}
+use Rattle.std.proofs.Common.{◌≡◌, ◌+◌, length, Some, None, sym, ap, subst, arith}
+use Rattle.routes.specs.Routes.{stream_of}
 use Rattle.grid.specs.Views.{streams_in}
 use Rattle.plan.specs.Loads.{sizes_of}
-use Rattle.plan.proofs.Lengths.{SmallStream, SmallHead, small_stream, small_head, head_short, plan_short}
+use Rattle.plan.proofs.SmallStreams.{AllSmall, lets_in_small, open_small}
+use Rattle.plan.proofs.Lengths.{SmallHead, small_head, head_short, plan_short}
 use Rattle.plan.proofs.Listing.{entry_says}
 use Rattle.plan.proofs.Writing.{SoFar, none_written, open_written, closed_written, room_for, hops_fit}
 use Rattle.plan.proofs.write.plan_of.Given as given
@@ -25,10 +25,13 @@ loop-number-preserved-in_default g c =
     (entry_says table.streams _ _ _ _ None c.streams-streams.ensures c.from.ensures (omega (arith, table.all)) c.in_default.is)
 
 -- the numbers of all open streams are small
-small : (g : given.Over) (c : In-Some g) → (n : ℕ) (s : OpenStream) → n < stream_count → streams_in c.args.grid.now.tables n ≡ Some s → SmallStream n s
-small g c n s there is =
+small : (g : given.Over) (c : In-Some g) → AllSmall (streams_in c.args.grid.now.tables)
+small g c =
     let grid = c.args.grid.now in
-    small_stream _ (g.met.L.Layout.lawful grid.layout) grid.tables.lanes.size.lanes grid.tables.capacity grid.tables.lanes.size.wide.1 (streams_in grid.tables) grid.sound n s there is
+    let size = grid.tables.lanes.size in
+    let capacity = grid.tables.capacity in
+    open_small (lets_in_small (g.met.W.Ways.ways_law grid.layout).sized (g.met.P.Policy.on_ways grid.layout) size.wide.1
+    (g.met.P.Policy.safe grid.layout size.lanes size.depth capacity 0) (g.met.P.Policy.reopens grid.layout size.lanes capacity)) grid.reached
 
 -- the stream at hand
 at_hand : (g : given.Over) (c : In-Some g) → streams_in c.args.grid.now.tables c.loop-number.number ≡ Some (stream_of c.in-Some.stream)
@@ -47,7 +50,7 @@ put_record-requires-clause-room g c =
 pub put_record-requires-clause-small : goal.put_record-requires-clause-small
 put_record-requires-clause-small g c =
     let here = (goal.at.put_record-requires-clause-small g c).In-Some in
-    hops_fit _ (small g here c.loop-number.number (stream_of c.in-Some.stream) (omega arith) (at_hand g here)).hops
+    hops_fit _ (small g here c.loop-number.number (stream_of c.in-Some.stream) (at_hand g here)).on_grid
 
 pub loop-number-preserved : goal.loop-number-preserved
 loop-number-preserved g c =

@@ -8,7 +8,8 @@ use Rattle.codec.specs.Heads.{judged}
 use Rattle.plan.specs.Loads.{sizes_of}
 use Rattle.plan.specs.Plans.{open_streams}
 use Rattle.plan.specs.RoundTrips.{LoadsAs}
-use Rattle.plan.proofs.Reloading.{loads_as}
+use Rattle.plan.proofs.SmallStreams.{lets_in_small}
+use Rattle.plan.proofs.Reloading.{reloadable, loads_as}
 use Rattle.plan.proofs.Writing.{in_buffer}
 use Rattle.plan.proofs.write.write.Goals as goal
 
@@ -24,6 +25,11 @@ returns-clause-loads g c =
     let pass : judged c.args.head.now c.open_count-count.result c.sizes_of.result ≡ Ok tt = sym c.judge_head.ensures ∙ c.in_default.is in
     let pass_here : judged c.args.head.now (length (open_streams streams)) sizes ≡ Ok tt = rw (← counted, ← sizes_are) pass in
     let bytes = c.as_slice.ensures.value ∙ c.plan_of.ensures in
-    in_buffer (LoadsAs (g.L.Layout.meaning grid.layout) sizes streams) _ _ _ _ _ c.put.ensures
-    (subst (LoadsAs (g.L.Layout.meaning grid.layout) sizes streams) (sym bytes)
-    (loads_as _ (g.met.L.Layout.lawful grid.layout) sizes grid.tables.lanes.size.wide.1 bound streams grid.sound beyond c.args.head.now pass_here))
+    let size = grid.tables.lanes.size in
+    let reopens = g.met.P.Policy.reopens grid.layout size.lanes sizes.capacity in
+    let small = lets_in_small (g.met.W.Ways.ways_law grid.layout).sized (g.met.P.Policy.on_ways grid.layout) size.wide.1
+    (g.met.P.Policy.safe grid.layout size.lanes size.depth sizes.capacity 0) reopens in
+    let able = reloadable (g.P.Policy.kind grid.layout) size.lanes sizes.capacity small reopens bound streams grid.reached in
+    in_buffer (LoadsAs (g.P.Policy.kind grid.layout) sizes streams) _ _ _ _ _ c.put.ensures
+    (subst (LoadsAs (g.P.Policy.kind grid.layout) sizes streams) (sym bytes)
+    (loads_as (g.P.Policy.kind grid.layout) sizes bound streams able beyond c.args.head.now pass_here))

@@ -1,27 +1,23 @@
--- Opening, closing and loading, which are lent no slots, on a grid with slots that show its items.
-use Rattle.std.proofs.Common.{◌≡◌, ℕ, List, [], ◌∷◌, length, is_some, Some, None, Option, Result, sym, refl, ap, ◌∙◌, subst}
+-- Opening and closing, which are lent no slots, on a grid with slots that show its items.
+use Rattle.std.proofs.Common.{◌≡◌, ℕ, List, length, is_some, Some, None, Option, sym, refl, ap, ◌∙◌}
 use Rattle.std.proofs.lemmas.Bool.{cond_both}
-use Rattle.layouts.specs.Layout.{Meaning}
 use Rattle.routes.specs.declared.declined.Declined.{Declined}
 use Rattle.routes.specs.declared.hop.Hop.{Hop}
 use Rattle.routes.specs.declared.stream.Request.{Request}
 use Rattle.routes.specs.Routes.{OpenStream}
+use Rattle.model.specs.Kinds.{Kind}
 use Rattle.model.specs.Grid.{Grid, with_stream}
 use Rattle.model.specs.Sums.{grid_sum}
 use Rattle.model.specs.Calls.{Call, opens, closes, Answer, declined, done, Outcome, unless_declined, open_refusal, close_refusal, outcome}
-use Rattle.model.specs.Outlines.{without_items}
 use Rattle.model.proofs.Outlines.{close_refusal-without_items}
 use Rattle.model.specs.Runs.{is_declined}
 use Rattle.model.specs.Slots.{arrival}
-use Rattle.lanes.specs.Queues.{queues_of, outline as lanes_outline}
+use Rattle.lanes.specs.Queues.{queues_of}
 use Rattle.grid.specs.declared.tables.Tables.{Tables}
 use Rattle.grid.specs.Views.{streams_in, with_streams, view, slots_alike, outline, setting}
 use Rattle.grid.specs.Makes.{Makes, Edits}
-use Rattle.codec.specs.Records.{Entry}
-use Rattle.plan.specs.declared.fault.LoadFault.{LoadFault}
-use Rattle.plan.specs.Loads.{loading_on, Opens, Loads}
-use Rattle.plan.proofs.Loading.{rest_stays}
-use Rattle.runs.specs.Calls.{load_reply, Shown, MakesOpenings, MakesLoad}
+use Rattle.runs.specs.Making.{Shown}
+use Rattle.runs.specs.Routings.{asked_of, given_refusal}
 
 -- the answer of a call that is done, unless it is declined
 abbrev pub answer_by : {T : Type 0} → Option Declined → Answer T
@@ -39,7 +35,7 @@ is_declined-answer_by T None = refl
 is_declined-answer_by T (Some d) = refl
 
 -- a grid with another entry in the place of a stream, unless that is declined
-abbrev entering : {T : Type 0} → Option Declined → Grid T → ℕ → Option OpenStream → Outcome T
+abbrev pub entering : {T : Type 0} → Option Declined → Grid T → ℕ → Option OpenStream → Outcome T
 entering r g n entry = unless_declined r g (record { answer = done; grid = with_stream g n entry })
 
 entering_answer : {T : Type 0} (r : Option Declined) (g : Grid T) (n : ℕ) (entry : Option OpenStream) → (entering r g n entry).answer ≡ answer_by r
@@ -51,16 +47,20 @@ entering_grid : {T U : Type 0} (r : Option Declined) (streams : ℕ → Option O
 entering_grid None streams g h n entry = refl
 entering_grid (Some d) streams g h n entry = refl
 
-module _ {T : Type 0} (m : Meaning) (t t' : Tables) (xs : List T) (n : ℕ) (entry : Option OpenStream) (r o : Option Declined) where
+-- a call that was declined by o has r for its refusal, where the two answer alike
+answered : (g : Grid (Unit {0})) (n : ℕ) (entry : Option OpenStream) (r o : Option Declined) → answer_by o ≡ (entering r g n entry).answer → o ≡ r
+answered g n entry r o is = answer_by-same o r (is ∙ entering_answer r g n entry)
+
+module _ {T : Type 0} (k : Kind) (t t' : Tables) (xs : List T) (n : ℕ) (entry : Option OpenStream) (r o : Option Declined) where
   -- a call on the outline that is one on the grid
   lifts : (c : Call (Unit {0})) (c' : Call T)
-      → outcome (setting m t (length (slots_alike t))) (outline t) c ≡ entering r (outline t) n entry
-      → outcome (setting m t (length xs)) (view t xs) c' ≡ entering r (view t xs) n entry
+      → outcome (setting k t (length (slots_alike t))) (outline t) c ≡ entering r (outline t) n entry
+      → outcome (setting k t (length xs)) (view t xs) c' ≡ entering r (view t xs) n entry
       → arrival (view t xs) c' ≡ None
-      → Edits m t c (answer_by o) t' → Makes m t xs c' (answer_by o) t' xs
+      → Edits k t c (answer_by o) t' → Makes k t xs c' (answer_by o) t' xs
   lifts c c' is is' arrives edits =
       let made = edits.made in
-      let same : o ≡ r = answer_by-same o r (made.answer ∙ ap (λ o. o.answer) is ∙ entering_answer r (outline t) n entry) in
+      let same : o ≡ r = answered (outline t) n entry r o (made.answer ∙ ap (λ o. o.answer) is) in
       record {
         answer = ap answer_by same ∙ sym (entering_answer r (view t xs) n entry) ∙ ap (λ o. o.answer) (sym is');
         grid =
@@ -74,32 +74,27 @@ module _ {T : Type 0} (m : Meaning) (t t' : Tables) (xs : List T) (n : ℕ) (ent
         declined = λ e. made.declined (is_declined-answer_by (Unit {0}) o ∙ sym (is_declined-answer_by T o) ∙ e);
       }
 
-module _ {T : Type 0} (m : Meaning) (t t' : Tables) (xs : List T) (n : ℕ) (o : Option Declined) where
-  pub opened : (q : Request) (hops : List Hop) → Edits m t (opens n q hops) (answer_by o) t' → Makes m t xs (opens n q hops) (answer_by o) t' xs
+module _ (k : Kind) (t t' : Tables) (n : ℕ) (o : Option Declined) where
+  pub opened : {T : Type 0} (xs : List T) (q : Request) (hops : List Hop) → Edits k t (opens n q hops) (answer_by o) t'
+      → Makes k t xs (opens n q hops) (answer_by o) t' xs
   unfolding open_refusal
-  opened q hops edits =
-      lifts m t t' xs n (Some (record { request = q; hops = hops })) (open_refusal (setting m t (length xs)) (view t xs) n q hops) o
+  opened xs q hops edits =
+      lifts k t t' xs n (Some (record { request = q; hops = hops })) (open_refusal (setting k t (length xs)) (view t xs) n q hops) o
       (opens n q hops) (opens n q hops) refl refl refl edits
 
-  pub closed : Shown t xs → Edits m t (closes n) (answer_by o) t' → Makes m t xs (closes n) (answer_by o) t' xs
+  pub closed : {T : Type 0} (xs : List T) → Shown t xs → Edits k t (closes n) (answer_by o) t' → Makes k t xs (closes n) (answer_by o) t' xs
   unfolding close_refusal grid_sum
-  closed shown edits =
-      let S = setting m t (length xs) in
+  closed xs shown edits =
+      let S = setting k t (length xs) in
       let same : close_refusal S (outline t) n ≡ close_refusal S (view t xs) n =
-      ap (λ g. close_refusal S (with_streams (streams_in t) g) n) (sym shown) ∙ close_refusal-without_items S (view t xs) n in
-      lifts m t t' xs n None (close_refusal S (view t xs) n) o
+      ap (λ g. close_refusal S g n) (sym shown) ∙ close_refusal-without_items S (view t xs) n in
+      lifts k t t' xs n None (close_refusal S (view t xs) n) o
       (closes n) (closes n) (ap (λ r. entering r (outline t) n None) same) refl refl edits
 
--- records that are opened one after another
-opened_each : {T : Type 0} (m : Meaning) (xs : List T) (es : List Entry) (t t' : Tables) → Opens m t es t' → MakesOpenings m t xs es t' xs
-opened_each m xs [] t t' made = (made, refl)
-opened_each m xs (e ∷ more) t t' made =
-    (made.0, xs, opened m t made.0 xs e.stream None e.request e.hops made.1, opened_each m xs more made.0 t' made.2)
-
-module _ {T : Type 0} (m : Meaning) (t t' : Tables) (xs : List T) (plan : List ℕ) (r : Result ℕ LoadFault) (loads : Loads m t plan r t') where
-  pub loaded : MakesLoad m t xs plan (load_reply r) t' xs
-  loaded = (ap load_reply loads.0, opened_each m xs (loading_on m t plan).opened t t' loads.1)
-
-  pub shown_loaded : Shown t xs → Shown t' xs
-  shown_loaded shown =
-      subst (λ l. without_items (queues_of l xs) ≡ lanes_outline l) (sym (rest_stays m (loading_on m t plan).opened t t' loads.1).0) shown
+  -- what declines an opening on given hops is what its answer tells
+  pub refusal_told : {V : Type 0} (q : Request) (hops : List Hop) (values : List V) (marks : List ℕ) → Edits k t (opens n q hops) (answer_by o) t'
+      → o ≡ given_refusal k (asked_of t n q values marks) hops
+  unfolding open_refusal
+  refusal_told q hops values marks edits =
+      let S = setting k t (length (slots_alike t)) in
+      answered (outline t) n (Some (record { request = q; hops = hops })) (open_refusal S (outline t) n q hops) o edits.made.answer

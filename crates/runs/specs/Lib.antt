@@ -1,2 +1,6 @@
 pub mod Calls
+pub mod Lending
+pub mod Routings
+pub mod Meanings
+pub mod Making
 pub mod Runs

@@ -11,14 +11,12 @@ use routes::declined::Declined;
 use routes::hop::Hop;
 use routes::stream::Request;
 
-/// A call on a grid, with items of one type and measures of another. Calls of one run can have several measures where their type
-/// holds several, as `Choice` does.
+/// A call on a grid, with items of one type, and with openings that come by their routes as another type tells: `Given` on every
+/// kind of grid, `GivenOrBest` on grids by the rules of a layout.
 #[derive(Drop)]
-pub enum Call<T, M> {
-    /// Open a stream of a number, with its fields, on a route of these hops.
-    Open(u16, Request, Vec<Hop>),
-    /// Open a stream of a number, with its fields, on a best route by a measure.
-    Seek(u16, Request, M),
+pub enum Call<T, R> {
+    /// Open a stream of a number, with its fields, on a route.
+    Open(u16, Request, R),
     /// Close a stream.
     Close(u16),
     /// Send an item of a stream.

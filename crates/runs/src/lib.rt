@@ -2,7 +2,11 @@
 #![tactic(auto)]
 
 pub mod call;
+pub mod given;
+pub mod given_or_best;
+pub mod lent;
 mod make;
 pub mod replay;
+pub mod routing;
 #[cfg(test)]
 mod tests;

@@ -1,13 +1,18 @@
 // Streams 5 and 63 on a 3 × 3 mesh under the rule XY, with three lanes to a link and two places to a lane: 144 slots.
 // Stream 5 goes over FIRST, SECOND and LAST; stream 63 joins it at SECOND. Answers and slots are worked out by hand.
 use crate::call::{Answer, Call, Failure, Reply};
+use crate::given::Given;
+use crate::given_or_best::GivenOrBest;
+use crate::lent::Lent;
 use crate::replay::{Run, replay};
+use codec::head::GridSizes;
 use grid::make::MakeError;
 use grid::step::Step;
 use lanes::strip::Strip;
 use layouts::mesh::Mesh;
 use layouts::turn_rule::TurnRule;
 use plan::fault::{InRecord, LoadFault};
+use policies::climbing::Climbing;
 use refusals::refusal::Refusal;
 use routes::declined::Declined;
 use routes::hop::Hop;
@@ -21,28 +26,41 @@ use std::test::Fail;
 // Seeks go by the sum of the loads or by the largest load.
 type Measures = Choice<Total, Peak>;
 
+type Routes = GivenOrBest<Measures>;
+
+const SIZES: GridSizes = GridSizes {
+    lanes: 3,
+    depth: 2,
+    capacity: 100,
+};
+
 const FIRST: Hop = Hop { link: 0, lane: 1 };
 
 const SECOND: Hop = Hop { link: 1, lane: 1 };
 
 const LAST: Hop = Hop { link: 14, lane: 2 };
 
-fn open_5(heap: Global) -> Result<Call<u32, Measures>, Fail> {
-    let request = Request {
-        source: 0,
-        target: 5,
-        demand: 40,
-    };
-    Ok(Call::Open(5, request, vec![in heap; FIRST, SECOND, LAST]?))
+// The fields of streams 5 and 63.
+const REQUEST_5: Request = Request {
+    source: 0,
+    target: 5,
+    demand: 40,
+};
+
+const REQUEST_63: Request = Request {
+    source: 1,
+    target: 5,
+    demand: 60,
+};
+
+fn open_5(heap: Global) -> Result<Call<u32, Routes>, Fail> {
+    let hops = vec![in heap; FIRST, SECOND, LAST]?;
+    Ok(Call::Open(5, REQUEST_5, GivenOrBest::Given(hops)))
 }
 
-fn open_63(heap: Global) -> Result<Call<u32, Measures>, Fail> {
-    let request = Request {
-        source: 1,
-        target: 5,
-        demand: 60,
-    };
-    Ok(Call::Open(63, request, vec![in heap; SECOND, LAST]?))
+fn open_63(heap: Global) -> Result<Call<u32, Routes>, Fail> {
+    let hops = vec![in heap; SECOND, LAST]?;
+    Ok(Call::Open(63, REQUEST_63, GivenOrBest::Given(hops)))
 }
 
 fn moved(stream: u16) -> Answer<u32> {
@@ -66,15 +84,20 @@ fn scratch() -> ([Either<u32, (u16, u16)>; 144], [u16; 1728]) {
 fn run(
     heap: Global,
     slots: &mut [u32],
-    calls: &[Call<u32, Measures>],
-) -> Result<Run<Mesh, u32>, Fail> {
+    calls: &[Call<u32, Routes>],
+) -> Result<Run<Mesh, Climbing, u32>, Fail> {
     let mesh = Mesh::new(TurnRule::Xy, 3, 3)?;
     let (mut values, mut marks) = scratch();
-    Ok(replay(heap, mesh, 3, 2, 100, slots, &mut values, &mut marks, calls)?)
+    let mut lent = Lent {
+        slots,
+        values: &mut values,
+        marks: &mut marks,
+    };
+    Ok(replay(heap, mesh, SIZES, &mut lent, calls)?)
 }
 
 // Sends in an uneven order, then four rounds of steps, and a close.
-fn calls(heap: Global) -> Result<Vec<Call<u32, Measures>>, Fail> {
+fn calls(heap: Global) -> Result<Vec<Call<u32, Routes>>, Fail> {
     let first = open_5(heap)?;
     let second = open_63(heap)?;
     Ok(vec![in heap;
@@ -159,10 +182,9 @@ fn strip(word: u32) -> Strip {
     }
 }
 
-fn strip_call(call: Call<u32, Measures>) -> Call<Strip, Measures> {
+fn strip_call(call: Call<u32, Routes>) -> Call<Strip, Routes> {
     match call {
-        Call::Open(stream, request, hops) => Call::Open(stream, request, hops),
-        Call::Seek(stream, request, measure) => Call::Seek(stream, request, measure),
+        Call::Open(stream, request, route) => Call::Open(stream, request, route),
         Call::Close(stream) => Call::Close(stream),
         Call::Send(stream, word) => Call::Send(stream, strip(word)),
         Call::Step(hop) => Call::Step(hop),
@@ -184,20 +206,15 @@ fn strip_answer(answer: Answer<u32>) -> Answer<Strip> {
 fn strips_of_two_streams(rt: HostRuntime) -> Result<(), Fail> {
     let heap = rt.alloc();
     let mesh = Mesh::new(TurnRule::Xy, 3, 3)?;
-    let calls: Vec<Call<Strip, Measures>> = calls(heap)?.into_iter().map(strip_call).collect(heap)?;
+    let calls: Vec<Call<Strip, Routes>> = calls(heap)?.into_iter().map(strip_call).collect(heap)?;
     let mut slots = [strip(9); 144];
     let (mut values, mut marks) = scratch();
-    let run = replay(
-        heap,
-        mesh,
-        3,
-        2,
-        100,
-        &mut slots,
-        &mut values,
-        &mut marks,
-        calls.as_slice(),
-    )?;
+    let mut lent = Lent {
+        slots: &mut slots,
+        values: &mut values,
+        marks: &mut marks,
+    };
+    let run: Run<Mesh, Climbing, Strip> = replay(heap, mesh, SIZES, &mut lent, calls.as_slice())?;
     assert_eq!(rt;
         run.answers.as_slice(),
         answers().map(strip_answer).as_slice()
@@ -250,15 +267,21 @@ fn refused_grids(rt: HostRuntime) -> Result<(), Fail> {
         (3, 2, 0, Refusal::ZeroAmount),
     ] {
         let mesh = Mesh::new(TurnRule::Xy, 3, 3)?;
-        let run = replay(
-            heap,
-            mesh,
+        let sizes = GridSizes {
             lanes,
             depth,
             capacity,
-            &mut slots,
-            &mut values,
-            &mut marks,
+        };
+        let mut lent = Lent {
+            slots: &mut slots,
+            values: &mut values,
+            marks: &mut marks,
+        };
+        let run: Result<Run<Mesh, Climbing, u32>, MakeError> = replay(
+            heap,
+            mesh,
+            sizes,
+            &mut lent,
             calls.as_slice(),
         );
         assert_eq!(rt; run.err(), Some(MakeError::Refused(refusal)));
@@ -268,7 +291,7 @@ fn refused_grids(rt: HostRuntime) -> Result<(), Fail> {
 }
 
 // Two lanes are filled; then three calls are declined, and three are done.
-fn calls_on_full_lanes(heap: Global) -> Result<Vec<Call<u32, Measures>>, Fail> {
+fn calls_on_full_lanes(heap: Global) -> Result<Vec<Call<u32, Routes>>, Fail> {
     let first = open_5(heap)?;
     let second = open_63(heap)?;
     let again = open_5(heap)?;
@@ -317,6 +340,46 @@ fn declined_in_the_middle(rt: HostRuntime) -> Result<(), Fail> {
     Ok(())
 }
 
+// Openings that are all given are lent no scratch.
+#[test]
+fn given_routes(rt: HostRuntime) -> Result<(), Fail> {
+    let heap = rt.alloc();
+    let mesh = Mesh::new(TurnRule::Xy, 3, 3)?;
+    let calls: Vec<Call<u32, Given>> = vec![in heap;
+        Call::Open(5, REQUEST_5, Given(vec![in heap; FIRST, SECOND, LAST]?)),
+        Call::Open(5, REQUEST_5, Given(vec![in heap; FIRST, SECOND, LAST]?)),
+        Call::Open(63, REQUEST_63, Given(vec![in heap; SECOND, FIRST]?)),
+        Call::Send(5, 1),
+        Call::Step(FIRST),
+        Call::Step(SECOND),
+        Call::Step(LAST),
+        Call::Close(5),
+    ]?;
+    let mut slots = [9; 144];
+    let mut lent = Lent {
+        slots: &mut slots,
+        values: &mut [],
+        marks: &mut [],
+    };
+    let run: Run<Mesh, Climbing, u32> = replay(heap, mesh, SIZES, &mut lent, calls.as_slice())?;
+    let no_turn = Declined {
+        refusal: Refusal::NoTurn,
+        hop: Some(1),
+    };
+    let expected = [
+        Ok(Reply::Done),
+        refused(Refusal::AlreadyOpen),
+        Err(no_turn.into()),
+        Ok(Reply::Done),
+        moved(5),
+        moved(5),
+        out(5, 1),
+        Ok(Reply::Done),
+    ];
+    assert_eq!(rt; run.answers.as_slice(), expected.as_slice());
+    Ok(())
+}
+
 // Seeks by both measures in one run, on links that bear 40 (link 0) and 30 (links 12 and 2): from tile 0 to tile 4 the sum of the
 // loads is less over links 0 and 13, the largest load less over 12 and 2.
 #[test]
@@ -328,34 +391,36 @@ fn seeks_by_two_measures(rt: HostRuntime) -> Result<(), Fail> {
         target,
         demand,
     };
-    let measure = |is_second| Choice {
-        first: Total,
-        second: Peak,
-        is_second,
+    let best = |is_second| {
+        GivenOrBest::Best(Choice {
+            first: Total,
+            second: Peak,
+            is_second,
+        })
     };
-    let calls: Vec<Call<u32, Measures>> = vec![in heap;
-        Call::Seek(0, load(0, 1, 40), measure(false)),
-        Call::Seek(1, load(0, 3, 30), measure(true)),
-        Call::Seek(2, load(3, 4, 30), measure(false)),
-        Call::Seek(3, load(0, 4, 10), measure(false)),
+    let calls: Vec<Call<u32, Routes>> = vec![in heap;
+        Call::Open(0, load(0, 1, 40), best(false)),
+        Call::Open(1, load(0, 3, 30), best(true)),
+        Call::Open(2, load(3, 4, 30), best(false)),
+        Call::Open(3, load(0, 4, 10), best(false)),
         Call::Close(3),
-        Call::Seek(3, load(0, 4, 10), measure(true)),
-        Call::Seek(3, load(0, 4, 10), measure(true)),
-        Call::Seek(4, load(0, 4, 71), measure(true)),
+        Call::Open(3, load(0, 4, 10), best(true)),
+        Call::Open(3, load(0, 4, 10), best(true)),
+        Call::Open(4, load(0, 4, 71), best(true)),
     ]?;
     let mut slots = [9; 24];
     let (mut values, mut marks) = scratch();
-    let run = replay(
-        heap,
-        mesh,
-        1,
-        1,
-        100,
-        &mut slots,
-        &mut values,
-        &mut marks,
-        calls.as_slice(),
-    )?;
+    let mut lent = Lent {
+        slots: &mut slots,
+        values: &mut values,
+        marks: &mut marks,
+    };
+    let sizes = GridSizes {
+        lanes: 1,
+        depth: 1,
+        capacity: 100,
+    };
+    let run: Run<Mesh, Climbing, u32> = replay(heap, mesh, sizes, &mut lent, calls.as_slice())?;
     let expected = [
         Ok(Reply::Found(1)),
         Ok(Reply::Found(1)),
@@ -385,27 +450,27 @@ fn plan(heap: Global, capacity: u8) -> Result<Vec<u8>, Fail> {
 fn answers_on(
     heap: Global,
     capacity: u8,
-    calls: &[Call<u32, Measures>],
+    calls: &[Call<u32, Routes>],
 ) -> Result<Vec<Answer<u32>>, Fail> {
     let mesh = Mesh::new(TurnRule::Xy, 3, 3)?;
     let (mut values, mut marks) = scratch();
     let mut slots = [9; 48];
-    let run = replay(
-        heap,
-        mesh,
-        1,
-        2,
-        u16::from(capacity),
-        &mut slots,
-        &mut values,
-        &mut marks,
-        calls,
-    )?;
+    let mut lent = Lent {
+        slots: &mut slots,
+        values: &mut values,
+        marks: &mut marks,
+    };
+    let sizes = GridSizes {
+        lanes: 1,
+        depth: 2,
+        capacity: u16::from(capacity),
+    };
+    let run: Run<Mesh, Climbing, u32> = replay(heap, mesh, sizes, &mut lent, calls)?;
     Ok(run.answers)
 }
 
 // The step of the lane of a link.
-fn step(link: u16) -> Call<u32, Measures> {
+fn step(link: u16) -> Call<u32, Routes> {
     Call::Step(Hop { link, lane: 0 })
 }
 

@@ -1,48 +1,52 @@
-use Rattle.std.proofs.Common.{vec_items, ap, ◌∙◌, refl, arith}
-use Rattle.runs.proofs.Replaying.{left_by, made_none, made_more, all_made}
+use Rattle.std.proofs.Common.{length, vec_items, ap, ◌∙◌, refl, arith}
+use Rattle.model.proofs.Theorem.{every_run}
+use Rattle.runs.specs.Routings.{finding}
+use Rattle.runs.specs.Meanings.{conditions, setting_in}
+use Rattle.runs.proofs.Replaying.{slices_refl, slices_then, made_none, made_more, all_made, left_by, sizes_are}
 use Rattle.runs.proofs.replay.replay.Goals as goal
 
 pub loop-k-init : goal.loop-k-init
 loop-k-init g c =
-    let grid = c.in_ok-grid.ensures in
-    let deep = rw grid.made.1.has_depth at c.in_ok-grid.grid.tables.lanes.size.deep.0 in
+    let blank = c.in_ok-grid.ensures.made.1 in
+    let z = c.args.sizes in
+    let xs = c.args.lent.now.slots.now in
+    let C = conditions (g.P.Policy.kind c.args.ways) z (finding g.R.Routing.searches g.R.Routing.finds c.args.ways) c.args.lent.now in
+    let deep = rw blank.has_depth at c.in_ok-grid.grid.tables.lanes.size.deep.0 in
+    let law = every_run g.row.T.Denot (setting_in C) deep (g.met.P.Policy.safe c.args.ways z.lanes z.depth z.capacity (length xs)) in
     record {
-      layout_is = grid.layout;
+      layout_is = c.in_ok-grid.ensures.layout;
       made =
-          made_none _ c.args.slots.now c.args.calls.now (vec_items c.in_ok-answers.answers) c.in_ok-grid.grid.tables
-          (λ past. c.law_of_every_run.ensures _ (g.met.L.Layout.lawful c.args.layout) _ _ _ _ deep past)
-          refl grid.made.1 (omega (arith, c.in_ok-answers.ensures.len, c.in_ok-answers.answers.ok.0));
+          made_none C c.in_ok-grid.grid.tables xs c.args.calls.now (vec_items c.in_ok-answers.answers) law refl blank
+          (omega (arith, c.in_ok-answers.ensures.len, c.in_ok-answers.answers.ok.0));
+      slices = slices_refl c.args.lent.now;
       values = refl;
       marks = refl;
     }
 
 pub loop-k-preserved : goal.loop-k-preserved
 loop-k-preserved g c =
-    let grid = c.in_ok-grid.ensures in
-    let deep = rw grid.made.1.has_depth at c.in_ok-grid.grid.tables.lanes.size.deep.0 in
     let so_far = c.loop-k.invariant in
-    let lanes = ap (λ s. s.lanes) so_far.made.left.set_so in
+    let same = so_far.slices in
+    let next = c.make.ensures in
+    let sizes = sizes_are so_far.made in
+    let lanes = ap (λ z. z.lanes) sizes in
     record {
-      layout_is = c.make.ensures.layout ∙ so_far.layout_is;
+      layout_is = next.layout ∙ so_far.layout_is;
       made =
-          made_more _ c.args.slots.now c.args.calls.now (vec_items c.loop-k.answers) c.loop-k.grid.tables c.loop-k.k c.loop-k-test.true
-          c.make.new.grid.tables c.loop-k.slots c.make.new.slots so_far.made c.index-calls-k.result c.index-calls-k.is c.make.result
-          (rw (so_far.layout_is, c.loop-k.auto.values, c.loop-k.auto.marks) at c.make.ensures.made) c.make.ensures.shown
-          (λ past. c.law_of_every_run.ensures _ (g.met.L.Layout.lawful c.args.layout) _ _ _ _ deep past);
-      values = rw (so_far.layout_is, lanes) at c.make.ensures.values ∙ so_far.values;
-      marks = rw (so_far.layout_is, lanes) at c.make.ensures.marks ∙ so_far.marks;
+          made_more so_far.made c.loop-k-test.true c.index-calls-k.is c.make.result
+          (rw (so_far.layout_is, sizes, same.slot_count, same.value_count, same.mark_count) at next.made) next.shown;
+      slices = slices_then same next.slices;
+      values = rw (so_far.layout_is, lanes) at next.values ∙ so_far.values;
+      marks = rw (so_far.layout_is, lanes) at next.marks ∙ so_far.marks;
     }
 
 pub returns-clause-run : goal.returns-clause-run
 returns-clause-run g c =
-    let grid = c.in_ok-grid.ensures.made in
     let made = c.loop-k.invariant.made in
     record {
-      makes = grid.0;
-      has_lanes = ap (λ s. s.lanes) made.left.set_so;
-      has_depth = ap (λ s. s.depth) made.left.set_so;
-      has_capacity = made.left.has_capacity;
+      makes = c.in_ok-grid.ensures.made.0;
+      has_sizes = sizes_are made;
       history = made.history;
-      run = all_made _ c.args.slots.now c.args.calls.now (vec_items c.loop-k.answers) c.loop-k.grid.tables c.loop-k.k c.loop-k.slots c.loop-k-test.false made;
-      leaves = left_by _ made.history c.args.slots.now c.loop-k.slots c.loop-k.grid.tables made.left made.shown;
+      run = all_made made c.loop-k-test.false;
+      leaves = left_by made;
     }

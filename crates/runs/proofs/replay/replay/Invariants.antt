@@ -1,16 +1,20 @@
-use Rattle.std.proofs.Common.{◌≡◌, length, vec_items}
+use Rattle.std.proofs.Common.{◌≡◌, vec_items}
 use Rattle.search.specs.Finds.{values_needed, marks_needed, SameBeyond}
-use Rattle.runs.specs.Runs.{conditions}
+use Rattle.runs.specs.Lending.{SameSlices}
+use Rattle.runs.specs.Routings.{finding}
+use Rattle.runs.specs.Meanings.{conditions}
 use Rattle.runs.proofs.Replaying.{Made}
 use Rattle.runs.proofs.replay.replay.Given as goal
 
--- the calls made so far
+-- the calls made so far, from the blank tables on
 abbrev pub invariant-loop-k : goal.invariant-loop-k
-invariant-loop-k g l = record {
-  layout_is : l.grid.layout ≡ l.fn.layout;
-  made :
-      Made (conditions (g.L.Layout.meaning l.fn.layout) l.fn.lanes l.fn.depth l.fn.capacity (length l.fn.slots) (length l.fn.values) (length l.fn.marks) (λ measure. g.M.Measure.scale measure))
-      l.fn.slots l.calls l.k (vec_items l.answers) l.grid.tables l.slots;
-  values : SameBeyond (values_needed (g.L.Layout.meaning l.fn.layout).links l.fn.lanes) l.fn.values l.values;
-  marks : SameBeyond (marks_needed (g.L.Layout.meaning l.fn.layout).links l.fn.lanes) l.fn.marks l.marks;
-}
+invariant-loop-k g l =
+    let k = g.P.Policy.kind l.fn.ways in
+    let C = conditions k l.fn.sizes (finding g.R.Routing.searches g.R.Routing.finds l.fn.ways) l.fn.lent in
+    record {
+      layout_is : l.grid.layout ≡ l.fn.ways;
+      made : Made C l.initial.grid.tables l.fn.lent.slots.now l.calls l.k (vec_items l.answers) l.grid.tables l.lent.slots.now;
+      slices : SameSlices l.fn.lent l.lent;
+      values : SameBeyond (values_needed k.links l.fn.sizes.lanes) l.fn.lent.values.now l.lent.values.now;
+      marks : SameBeyond (marks_needed k.links l.fn.sizes.lanes) l.fn.lent.marks.now l.lent.marks.now;
+    }

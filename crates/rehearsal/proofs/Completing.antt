@@ -1,200 +1,141 @@
 -- A rehearsal that is made completes.
-use Rattle.std.proofs.Common.{◌≡◌, ℕ, ◌+◌, ◌*◌, ◌<◌, ◌≤◌, Bool, true, List, ◌++◌, length, length-take, Some, None, Option, get_or, sym, refl, ap, subst, ◌∙◌, ⊎_elim, arith, mul-zero}
-use Rattle.std.proofs.Math.Path.{fun_ext}
-use Rattle.std.proofs.lemmas.List.{append_cancel_left}
-use Rattle.std.proofs.lemmas.Bool.{cases_lt, le-leb}
+use Rattle.std.proofs.Common.{◌≡◌, ℕ, nat_lt, ◌*◌, ◌<◌, ◌≤◌, true, List, [], ◌∷◌, length, Some, None, Option, sym, refl, ap, ◌∙◌, ⊎_elim, arith, mul-zero}
+use Rattle.std.proofs.lemmas.Bool.{cases_lt, and_parts, ltb-true, lt-ltb}
+use Rattle.std.proofs.lemmas.Bool.Decides.{nat_tests}
 use Rattle.std.specs.Option.{option_map}
-use Rattle.layouts.specs.Layout.{Meaning}
-use Rattle.routes.specs.declared.stream.Stream.{Stream}
-use Rattle.routes.specs.Routes.{OpenStream, stream_of}
+use Rattle.routes.specs.declared.hop.Hop.{Hop}
+use Rattle.routes.specs.Routes.{OpenStream, is_on_grid}
 use Rattle.routes.specs.Loads.{stream_count}
-use Rattle.model.specs.Grid.{Setting, Grid, enough_slots, route_of}
-use Rattle.model.specs.Sums.{item_count}
-use Rattle.model.specs.Runs.{History, after, is_declined, handed_out_since, hops_let_in}
-use Rattle.model.specs.Law.{NoLaneWillStep, Keeps}
+use Rattle.model.specs.Grid.{Setting, Queue, Grid, enough_slots, route_of}
+use Rattle.model.specs.Kinds.{Kind}
+use Rattle.model.specs.Sums.{of_stream, queue_sum, one, item_count}
+use Rattle.model.specs.Calls.{Call, sends, send_refusal}
+use Rattle.model.specs.Runs.{History, start, after_from, let_in_from, handed_out_from, hops_let_in_from}
+use Rattle.model.specs.Safe.{Takes}
+use Rattle.model.specs.Law.{Goes, NoLaneWillStep}
+use Rattle.model.proofs.GridSums.{grid_sum_at}
+use Rattle.model.proofs.Onward.{all_came_out, all_hops_went}
 use Rattle.lanes.specs.declared.strip.Strip.{Strip}
-use Rattle.lanes.specs.Sizes.{slot_count}
 use Rattle.grid.specs.declared.tables.Tables.{Tables}
-use Rattle.grid.specs.Sound.{Sound}
-use Rattle.grid.specs.Views.{streams_in, setting, view, outline}
+use Rattle.grid.specs.Views.{streams_in, setting, view}
+use Rattle.grid.proofs.InTurn.{turn_setting, turn_grid}
 use Rattle.plan.specs.Plans.{open_streams}
 use Rattle.plan.specs.Summaries.{hop_count}
-use Rattle.rehearsal.specs.declared.tally.Tally.{Tally}
-use Rattle.rehearsal.specs.declared.rehearse.Rehearsal.{Rehearsal}
-use Rattle.rehearsal.specs.Strips.{strip_of, are_rows, counted}
-use Rattle.rehearsal.specs.Acts.{Acts, sent_by, out_by, gone, steps_gone as steps_of}
-use Rattle.rehearsal.specs.Rehearsals.{tally_at, Tells, Rests, Stands, Completes, Rehearses, rehearsal_refusal}
-use Rattle.rehearsal.proofs.Rows.{rows, length-rows, rows_in_order}
-use Rattle.rehearsal.proofs.Weights.{route_length, weighed, weighed_most, weighed_all}
-use Rattle.rehearsal.proofs.Histories.{then_acts, Answered, streams_stay, handed_since, let_since, steps_since, hops_since, gone_is}
-use Rattle.rehearsal.proofs.Places.{at_places, steps_same}
-use Rattle.rehearsal.proofs.Following.{Left, left_acts}
-use Rattle.rehearsal.proofs.Reopening.{Reopened, reopened, none_beyond}
-use Rattle.rehearsal.proofs.Emptied.{Empty, empty_counts, counted_empty, outline_count, Settled, rests_if_none, none_if_rests, settled, empty_sends}
+use Rattle.rehearsal.specs.Strips.{strip_of, counted}
+use Rattle.rehearsal.specs.Rehearsals.{tally_of, tally_at, Moment, setting_at, grid_at, Rests, Stands, Completes, Rehearses}
+use Rattle.rehearsal.proofs.Weights.{route_length, count, weighed, weighed_most, weighed_all}
+use Rattle.rehearsal.proofs.Beginning.{Ready}
+use Rattle.rehearsal.proofs.Entering.{Enters, acts_rows, acts_enter}
 
--- ---- the routes of open streams have 1 to 24 hops
+-- ---- what a stream lets in on an empty grid
 
--- not more than 24
-route_short : (entry : Option Stream) → length (route_of (option_map stream_of entry)) ≤ 24
-route_short None = omega arith
-route_short (Some s) = omega (arith, length-take s.route.count s.route.table, s.route.few)
+module _ (S : Setting) (g : Grid Strip) (none : item_count S g ≡ 0) where
+  -- a lane of the grid is empty
+  empty_if_none : (link : ℕ) (queue : Queue Strip) → queue_sum (one link) queue ≡ 0 → queue ≡ []
+  empty_if_none link [] is = refl
+  empty_if_none link (item ∷ queue) is = absurd (omega arith)
 
--- and at least one
-route_some : (entry : Option Stream) (s : OpenStream) → option_map stream_of entry ≡ Some s → 1 ≤ length s.hops
-route_some None s is = cc
-route_some (Some x) s is =
-    let same : stream_of x ≡ s = cc in
-    omega (arith, ap (λ (s : OpenStream). length s.hops) same, length-take x.route.count x.route.table, x.route.some, x.route.whole)
+  lane_empty : (h : Hop) → is_on_grid S.links S.lanes h ≡ true → g.contents h.link h.lane ≡ []
+  lane_empty h there =
+      let parts = and_parts (nat_lt h.link S.links) (nat_lt h.lane S.lanes) there in
+      empty_if_none h.link (g.contents h.link h.lane) (omega (arith, none, grid_sum_at S one g.contents h (ltb-true _ _ parts.0, ltb-true _ _ parts.1)))
+
+  -- so a strip of an open stream is let in
+  lets_in : (n : ℕ) (x : Strip) (s : OpenStream) (hops : List Hop) → enough_slots S ≡ true → 1 ≤ S.depth → n < stream_count
+      → g.streams n ≡ Some s → s.hops ≡ hops → Takes S hops → Goes S g (sends n x)
+  unfolding send_refusal
+  lets_in n x s [] enough deep low is begins takes = let none = takes.count in cc
+  lets_in n x s (h ∷ hops) enough deep low is begins takes =
+      rw (enough, lt-ltb n stream_count low, is, begins, lane_empty h (and_parts _ _ takes.there).0, lt-ltb 0 S.depth deep) refl
+
+-- a route has at most 24 hops
+route_short : (S : Setting) (entry : Option OpenStream) → ((s : OpenStream) → entry ≡ Some s → Takes S s.hops) → length (route_of entry) ≤ 24
+route_short S None takes = omega arith
+route_short S (Some s) takes = let count = (takes s refl).count in grind (arith, nat_tests)
 
 -- ---- a rehearsal
 
--- a tally that tells these numbers is this one
-tally_is : (tally : Tally) (count out : ℕ) (in_order : Bool) → tally.sent ≡ count → tally.out ≡ out → tally.in_order ≡ in_order
-    → tally ≡ record { sent = count; out = out; in_order = in_order }
-tally_is tally count out in_order so_many outs order = rw (← so_many, ← outs, ← order) refl
-
--- A rehearsal may be made on these tables with these slots: there are slots for all lanes, nothing is on the grid, the open streams are as every grid
--- has them, and the law of every run holds.
-pub record Ready (m : Meaning) (t : Tables) (xs : List Strip) : Type 0 where
-  pub links : m.links ≡ t.lanes.size.links
-  pub enough : slot_count t.lanes.size ≤ length xs
-  pub none : item_count (setting m t 0) (outline t) ≡ 0
-  pub sound : Sound m t.lanes.size.lanes t.capacity (streams_in t)
-  pub law : (past : History Strip) → Keeps (setting m t (length xs)) past
-
--- grids with the same open streams and the same items are the same but for the places
-alike : (g g' : Grid Strip) → g.streams ≡ g'.streams → g.contents ≡ g'.contents → g ≡ at_places g.places g'
-alike g g' streams contents = rw (← streams, ← contents) refl
-
-module _ (m : Meaning) (strips : ℕ) (t t' : Tables) (xs xs' : List Strip) (r : Rehearsal) (acts : Acts) (stands : Stands m strips t xs acts r t' xs')
-    (ready : Ready m t xs) where
+module _ {k : Kind} {strips : ℕ} {t : Tables} {xs : List Strip} {went : ℕ} {now : Moment}
+    (stands : Stands k strips t xs went now) (ready : Ready k t xs) where
   abbrev S : Setting
-  S = setting m t (length xs)
+  S = setting k t (length xs)
 
-  -- there are slots for all lanes
-  enough : enough_slots S ≡ true
-  enough = rw ready.links (le-leb _ _ ready.enough)
+  abbrev g : Grid Strip
+  g = view t xs
 
-  -- A history leaves the grid as it is but for the places. They make no difference to the acts.
-  begun : Reopened S (streams_in t)
-  begun = reopened m t.lanes.size.lanes t.lanes.size.depth t.capacity (length xs) (streams_in t) ready.sound (none_beyond t.streams t.all)
+  abbrev acts : History Strip
+  acts = stands.acts
 
-  abbrev past : History Strip
-  past = begun.past
+  abbrev let_in : Queue Strip
+  let_in = let_in_from S g acts
 
-  abbrev run : History Strip
-  run = then_acts past acts
+  -- what its acts let in
+  enters : Enters g.streams (after_from S g acts).streams let_in (hops_let_in_from S g acts)
+  enters = acts_enter S g ready.kept acts stands.reports.are_acts
 
-  -- nothing is on the grid, nor after the history
-  left_at_start : Left m S past t xs
-  left_at_start =
-      let empty = counted_empty m t xs ready.links (outline_count m t xs ready.links enough ∙ ready.none) in
-      record {
-        set_so = refl;
-        links = ready.links;
-        places = (view t xs).places;
-        grid = alike (view t xs) (after S past) (sym begun.streams_are) (fun_ext (λ link. fun_ext (λ lane. empty link lane ∙ sym (begun.empty link lane))));
-      }
-
-  -- the acts go on with it
-  ends_so : Left m S run t' xs' × Answered S past acts
-  ends_so = left_acts m S past t xs left_at_start acts t' xs' stands.made
-
-  -- what the counts of the run have come to before the acts
-  before : Settled S past
-  before = settled S past (ready.law past) (rests_if_none S past (ready.law past) (empty_counts S (after S past) begun.empty)) begun.empty
-
-  -- what the acts let in
-  hops_are : hops_let_in S run ≡ hops_let_in S past + weighed (route_length (streams_in t)) acts
-  hops_are = hops_since S past acts ends_so.1 ∙ ap (λ streams. hops_let_in S past + weighed (route_length streams) acts) begun.streams_are
-
-  -- at most as many steps went as the strips that were let in have hops
-  few_steps : steps_of acts ≤ weighed (route_length (streams_in t)) acts
-  few_steps = omega (arith, (ready.law run).hops, steps_since S past acts ends_so.1, hops_are, before.steps)
-
-  -- so no rehearsal goes on until a number of 64 bits cannot count it
-  pub not_endless : strips < 65536 → 18446744073709551615 ≤ gone acts → ⊥
+  -- no rehearsal goes on until a number of 64 bits cannot count it
+  pub not_endless : strips < 65536 → 18446744073709551615 ≤ went → ⊥
   not_endless narrow endless =
-      let sends = weighed_most (λ _. 1) acts strips 1 stands.few (λ n. omega arith) in
-      let hops = weighed_most (route_length (streams_in t)) acts strips 24 stands.few (λ n. route_short (get_or t.streams n None)) in
-      omega (arith, few_steps, gone_is S past acts ends_so.1, sends, hops)
+      let sends = weighed_most (λ _. 1) let_in strips 1 stands.reports.few (λ n. omega arith) in
+      let hops = weighed_most (route_length g.streams) let_in strips 24 stands.reports.few (λ n. route_short S (streams_in t n) (ready.takes n)) in
+      omega (arith, stands.many, enters.count, enters.hops, sends, hops, (ready.law acts).hops, ((ready.law start).empty ready.none).0)
 
-  module _ (rests : Rests m t' xs' strips r) where
-    -- no lane will step, so nothing is on the grid at the end
-    no_step : NoLaneWillStep S (after S run)
-    no_step link lane goes =
-        let rests_there = rw (ends_so.0.set_so, ends_so.0.grid) at rests.no_step in
-        rests_there link lane (ap is_declined (steps_same S ends_so.0.places (after S run) link lane).answer ∙ goes)
+  -- a call that goes after the acts goes now
+  goes_now : (c : Call Strip) → Goes S (after_from S g acts) c → Goes (setting_at k now) (grid_at now) c
+  goes_now c goes = rw (turn_setting k t xs stands.in_turn, turn_grid k t xs stands.in_turn) goes
 
-    empty_at_end : Empty (view t' xs')
-    empty_at_end =
-        counted_empty m t' xs' ends_so.0.links
-        (ap (λ s. item_count s (view t' xs')) ends_so.0.set_so ∙ ap (item_count S) ends_so.0.grid ∙ none_if_rests S run (ready.law run) no_step)
-
-    -- and everything that was let in came out
-    afterwards : Settled S run
-    afterwards = settled S run (ready.law run) no_step (subst Empty ends_so.0.grid empty_at_end)
-
-    -- as many steps went as the strips that were let in have hops
-    steps_are : steps_of acts ≡ weighed (route_length (streams_in t)) acts
-    steps_are = omega (arith, steps_since S past acts ends_so.1, hops_are, before.steps, afterwards.steps)
+  module _ (rests : Rests k strips now) where
+    -- no lane will step, so everything that was let in came out
+    no_step : NoLaneWillStep S (after_from S g acts)
+    no_step = rw (turn_setting k t xs stands.in_turn, turn_grid k t xs stands.in_turn) at rests.no_step
 
     module _ (n : ℕ) (s : OpenStream) (low : n < stream_count) (is : streams_in t n ≡ Some s) where
-      -- the stream is open throughout
-      open_before : (after S past).streams n ≡ Some s
-      open_before = ap (λ streams. streams n) begun.streams_are ∙ is
-
-      open_at_end : (after S run).streams n ≡ Some s
-      open_at_end = ap (λ streams. streams n) (streams_stay S past acts) ∙ open_before
-
       -- its tally
-      told : (tally : Tally) × (tally_at r n ≡ Some tally) × Tells acts n tally
-      told = rw is at (stands.counts.tallies n low)
+      told : tally_at now.report n ≡ Some (tally_of n (of_stream n let_in) (of_stream n (handed_out_from S g acts)))
+      told = stands.reports.counts.tallies n low ∙ ap (option_map _) is
 
       -- the lanes are empty, so no strip is left
-      none_left : told.0.sent < strips → ⊥
-      none_left less =
-          rests.no_send n low told.0 told.1 less (strip_of n 0)
-          (empty_sends (setting m t' (length xs')) (view t' xs') n (strip_of n 0) s empty_at_end (ap enough_slots ends_so.0.set_so ∙ enough) t'.lanes.size.deep.0 low
-          (ap (λ g. g.streams n) ends_so.0.grid ∙ open_at_end) (route_some (get_or t.streams n None) s is))
+      next_goes : Goes S (after_from S g acts) (sends n (strip_of n 0))
+      next_goes =
+          lets_in S (after_from S g acts) ((ready.law acts).rests.1 no_step) n (strip_of n 0) s s.hops ready.enough t.lanes.size.deep.0 low
+          (ap (λ streams. streams n) enters.stay ∙ is) refl (ready.takes n s is)
 
-      all_sent : sent_by n acts ≡ strips
+      none_left : count n let_in < strips → ⊥
+      none_left less = rests.no_send n low _ told less (strip_of n 0) (goes_now (sends n (strip_of n 0)) next_goes)
+
+      all_sent : count n let_in ≡ strips
       all_sent =
-          ⊎_elim (λ (less : told.0.sent < strips). absurd (none_left less)) (λ (all : strips ≤ told.0.sent). omega (arith, stands.few n, told.2.sent)) (cases_lt told.0.sent strips)
+          ⊎_elim
+          (λ (less : count n let_in < strips). absurd (none_left less))
+          (λ (all : strips ≤ count n let_in). omega (arith, stands.reports.few n))
+          (cases_lt (count n let_in) strips)
 
-      -- what came out is what was let in
-      all_out : out_by n acts ≡ rows n strips
-      all_out =
-          append_cancel_left (handed_out_since S n past) (out_by n acts) (rows n (sent_by n acts))
-          (sym (handed_since S past n acts ends_so.1) ∙ sym (afterwards.streams n s open_at_end) ∙ let_since S past n acts ends_so.1
-          ∙ ap (λ l. l ++ rows n (sent_by n acts)) (before.streams n s open_before))
-          ∙ ap (rows n) all_sent
-
-      tally_complete : strips < 65536 → tally_at r n ≡ Some (record { sent = strips; out = strips; in_order = true })
+      tally_complete : strips < 65536 → tally_at now.report n ≡ Some (record { sent = strips; out = strips; in_order = true })
       tally_complete narrow =
-          told.1
-          ∙ ap Some (tally_is told.0 strips strips true (told.2.sent ∙ all_sent)
-          (told.2.out ∙ ap (λ l. counted (length l)) all_out ∙ omega (arith, length-rows n strips))
-          (told.2.in_order ∙ ap (are_rows n 0) all_out ∙ rows_in_order n strips))
+          let held : counted strips ≡ strips = omega arith in
+          told
+          ∙ ap (λ out. Some (tally_of n (of_stream n let_in) out)) (sym (all_came_out S g ready.law ready.none acts no_step n))
+          ∙ rw (acts_rows n S g acts stands.reports.are_acts, all_sent, held) refl
 
     -- a stream that is not open has no hops
     hops_sent : (n : ℕ) → n < stream_count → (entry : Option OpenStream) → streams_in t n ≡ entry
-        → sent_by n acts * length (route_of entry) ≡ strips * length (route_of entry)
-    hops_sent n low None is = mul-zero (sent_by n acts) ∙ sym (mul-zero strips)
-    hops_sent n low (Some s) is = ap (λ k. k * length s.hops) (all_sent n s low is)
+        → count n let_in * length (route_of entry) ≡ strips * length (route_of entry)
+    hops_sent n low None is = mul-zero (count n let_in) ∙ sym (mul-zero strips)
+    hops_sent n low (Some s) is = ap (λ i. i * length s.hops) (all_sent n s low is)
 
-    completes_at_rest : strips < 65536 → r.ahead ≡ counted (strips * hop_count (open_streams (streams_in t))) → Completes (streams_in t) strips r
-    completes_at_rest narrow ahead = record {
+    all_hops : weighed (route_length g.streams) let_in ≡ strips * hop_count (open_streams (streams_in t))
+    all_hops = weighed_all (streams_in t) let_in strips (λ n low. hops_sent n low (streams_in t n) refl)
+
+    completes : strips < 65536 → now.report.ahead ≡ counted (strips * hop_count (open_streams (streams_in t)))
+        → Completes (streams_in t) strips now.report
+    completes narrow ahead = record {
       all = λ n s low is. tally_complete n s low is narrow;
       steps =
-          stands.counts.steps
-          ∙ ap counted (steps_are ∙ weighed_all (streams_in t) acts strips (λ n low. hops_sent n low (streams_in t n) refl))
+          stands.reports.counts.steps
+          ∙ ap counted (all_hops_went S g ready.law ready.none acts no_step ∙ enters.hops ∙ all_hops)
           ∙ sym ahead;
     }
 
-  -- nothing declines it
-  pub none_declines : rehearsal_refusal m t (length xs) ≡ None
-  none_declines = rw (enough, ready.none) refl
-
-  pub rehearses : strips < 65536 → r.ahead ≡ counted (strips * hop_count (open_streams (streams_in t))) → Rests m t' xs' strips r → Rehearses m strips t xs r t' xs'
-  rehearses narrow ahead rests = record { acts = acts; stands = stands; ahead = ahead; ends = rests; completes = completes_at_rest rests narrow ahead }
+    pub rehearses : strips < 65536 → now.report.ahead ≡ counted (strips * hop_count (open_streams (streams_in t))) → Rehearses k strips t xs now
+    rehearses narrow ahead =
+        record { acts = acts; in_turn = stands.in_turn; reports = stands.reports; ahead = ahead; ends = rests; completes = completes narrow ahead }

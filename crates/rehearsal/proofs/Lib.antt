@@ -1,14 +1,10 @@
 pub mod Counting
 pub mod Starting
 pub mod Tallies
-pub mod Acting
 pub mod Going
+pub mod Acting
 pub mod Sweeping
-pub mod Rows
 pub mod Weights
-pub mod Histories
-pub mod Emptied
-pub mod Places
-pub mod Following
-pub mod Reopening
+pub mod Entering
+pub mod Beginning
 pub mod Completing

@@ -1,22 +1,19 @@
 // Rehearsing the open streams of a grid.
-ghost use Rattle.std.specs.Prelude.{◌≡◌, ℕ, ◌+◌, ◌<◌, false, length, cond, ◌==◌, slice_index_or};
+ghost use Rattle.std.specs.Prelude.{◌≡◌, ℕ, ◌+◌, ◌<◌, [], false, if◌then◌else◌, ◌==◌, slice_index_or};
 ghost use Rattle.std.specs.Option.{option_map};
 ghost use Rattle.routes.specs.Routes.{streams_of};
 ghost use Rattle.routes.specs.Loads.{stream_count};
-ghost use Rattle.model.specs.Law.{WillStep, NoLaneWillStep};
-ghost use Rattle.grid.specs.Views.{setting, view};
 ghost use Rattle.rehearsal.specs.Strips.{counted};
-ghost use Rattle.rehearsal.specs.Acts.{start};
-ghost use Rattle.rehearsal.specs.Rehearsals.{tally_at, taken, TellsOf, CountsStrip, SendsNone, GoesOn, Idle, Rests, MayRehearse};
+ghost use Rattle.rehearsal.specs.Rehearsals.{tally_of, tally_at, taken, CountsStrip, moment, StepsNot, NoneSteps, SendsNone, NoneSends, Rests, Idle, GoesOn, MayRehearse};
 
 use crate::beat::Beat;
 use crate::tally::{Tally, strip_of};
 use grid::grid::Grid;
 use grid::step::Step;
 use lanes::strip::Strip;
-use layouts::layout::Layout;
-use model::law::law_of_every_run;
+use layouts::ways::Ways;
 use plan::summary::summary;
+use policies::policy::Policy;
 use refusals::refusal::Refusal;
 use routes::hop::Hop;
 use routes::stream::Stream;
@@ -36,7 +33,8 @@ pub struct Rehearsal {
 
 // An empty tally for each open stream.
 fn tallies(streams: &[Option<Stream>; 64]) -> [Option<Tally>; 64]
-    ensures { (n : ℕ) → n < stream_count → TellsOf start n (streams_of streams.now n) (slice_index_or result n None) }
+    ensures { (n : ℕ) → n < stream_count → slice_index_or result n None
+        ≡ option_map (λ _. tally_of n [] []) (streams_of streams.now n) }
 {
     let mut tallies = [None; 64];
     for stream in 0..64 {
@@ -49,18 +47,23 @@ fn tallies(streams: &[Option<Stream>; 64]) -> [Option<Tally>; 64]
 
 impl Rehearsal {
     // A stream sends its next strip, if it has one left. Whether the strip was let in.
-    fn send<L: Layout>(
+    fn send<W: Ways, P: Policy<W>>(
         &mut self,
-        grid: &mut Grid<L>,
+        grid: &mut Grid<W, P>,
         slots: &mut [Strip],
         stream: u8,
         strips: u16,
     ) -> bool
         requires { stream < stream_count }
         ensures layout { grid.new.layout ≡ grid.old.layout }
-        ensures on { GoesOn (L.meaning grid.old.layout) strips self.old grid.old.tables slots.old result self.new grid.new.tables slots.new }
-        ensures idle { result ≡ false → Idle self.old grid.old.tables slots.old self.new grid.new.tables slots.new }
-        ensures declined { result ≡ false → SendsNone (L.meaning grid.old.layout) grid.old.tables slots.old strips self.old stream }
+        ensures on { GoesOn (P.kind grid.old.layout) strips result
+            (moment self.old grid.old.tables slots.old)
+            (moment self.new grid.new.tables slots.new) }
+        ensures idle { result ≡ false → Idle
+            (moment self.old grid.old.tables slots.old)
+            (moment self.new grid.new.tables slots.new) }
+        ensures declined { result ≡ false → SendsNone (P.kind grid.old.layout) strips
+            (moment self.old grid.old.tables slots.old) stream }
     {
         let number = usize::from(stream);
         let Some(tally) = self.tallies[number] else {
@@ -81,18 +84,23 @@ impl Rehearsal {
     }
 
     // All streams send, each as often as the beat says. Whether a strip was let in.
-    fn send_all<L: Layout>(
+    fn send_all<W: Ways, P: Policy<W>>(
         &mut self,
-        grid: &mut Grid<L>,
+        grid: &mut Grid<W, P>,
         slots: &mut [Strip],
         strips: u16,
         beat: Beat,
         turn: u64,
     ) -> bool
         ensures layout { grid.new.layout ≡ grid.old.layout }
-        ensures on { GoesOn (L.meaning grid.old.layout) strips self.old grid.old.tables slots.old result self.new grid.new.tables slots.new }
-        ensures idle { result ≡ false → Idle self.old grid.old.tables slots.old self.new grid.new.tables slots.new }
-        ensures declined { result ≡ false → (n : ℕ) → n < stream_count → SendsNone (L.meaning grid.old.layout) grid.old.tables slots.old strips self.old n }
+        ensures on { GoesOn (P.kind grid.old.layout) strips result
+            (moment self.old grid.old.tables slots.old)
+            (moment self.new grid.new.tables slots.new) }
+        ensures idle { result ≡ false → Idle
+            (moment self.old grid.old.tables slots.old)
+            (moment self.new grid.new.tables slots.new) }
+        ensures declined { result ≡ false → NoneSends (P.kind grid.old.layout) strips
+            (moment self.old grid.old.tables slots.old) }
     {
         let mut went = false;
         for stream in 0..64 {
@@ -109,7 +117,9 @@ impl Rehearsal {
         ensures steps { self.new.steps ≡ self.old.steps }
         ensures items { self.new.items ≡ counted (self.old.items + 1) }
         ensures ahead { self.new.ahead ≡ self.old.ahead }
-        ensures tallies { (n : ℕ) → n < stream_count → tally_at self.new n ≡ cond (stream == n) (option_map (taken stream strip) (tally_at self.old n)) (tally_at self.old n) }
+        ensures tallies { (n : ℕ) → n < stream_count → tally_at self.new n
+            ≡ (if stream == n then option_map (taken stream strip) (tally_at self.old n)
+            else tally_at self.old n) }
     {
         self.items = self.items.saturating_add(1);
         if stream < 64 {
@@ -133,11 +143,21 @@ impl Rehearsal {
     }
 
     // Steps a lane. Whether the step went.
-    fn step<L: Layout>(&mut self, grid: &mut Grid<L>, slots: &mut [Strip], hop: Hop) -> bool
+    fn step<W: Ways, P: Policy<W>>(
+        &mut self,
+        grid: &mut Grid<W, P>,
+        slots: &mut [Strip],
+        hop: Hop,
+    ) -> bool
         ensures layout { grid.new.layout ≡ grid.old.layout }
-        ensures on { (strips : ℕ) → GoesOn (L.meaning grid.old.layout) strips self.old grid.old.tables slots.old result self.new grid.new.tables slots.new }
-        ensures idle { result ≡ false → Idle self.old grid.old.tables slots.old self.new grid.new.tables slots.new }
-        ensures declined { result ≡ false → WillStep (setting (L.meaning grid.old.layout) grid.old.tables (length slots.old)) (view grid.old.tables slots.old) hop.link hop.lane → ⊥ }
+        ensures on { (strips : ℕ) → GoesOn (P.kind grid.old.layout) strips result
+            (moment self.old grid.old.tables slots.old)
+            (moment self.new grid.new.tables slots.new) }
+        ensures idle { result ≡ false → Idle
+            (moment self.old grid.old.tables slots.old)
+            (moment self.new grid.new.tables slots.new) }
+        ensures declined { result ≡ false → StepsNot (P.kind grid.old.layout)
+            (moment self.old grid.old.tables slots.old) hop.link hop.lane }
     {
         let Ok(step) = grid.step(slots, hop) else {
             return false;
@@ -147,11 +167,16 @@ impl Rehearsal {
     }
 
     // Steps each lane once, links rising and lanes rising within a link. Whether a step went.
-    fn sweep<L: Layout>(&mut self, grid: &mut Grid<L>, slots: &mut [Strip]) -> bool
+    fn sweep<W: Ways, P: Policy<W>>(&mut self, grid: &mut Grid<W, P>, slots: &mut [Strip]) -> bool
         ensures layout { grid.new.layout ≡ grid.old.layout }
-        ensures on { (strips : ℕ) → GoesOn (L.meaning grid.old.layout) strips self.old grid.old.tables slots.old result self.new grid.new.tables slots.new }
-        ensures idle { result ≡ false → Idle self.old grid.old.tables slots.old self.new grid.new.tables slots.new }
-        ensures declined { result ≡ false → NoLaneWillStep (setting (L.meaning grid.old.layout) grid.old.tables (length slots.old)) (view grid.old.tables slots.old) }
+        ensures on { (strips : ℕ) → GoesOn (P.kind grid.old.layout) strips result
+            (moment self.old grid.old.tables slots.old)
+            (moment self.new grid.new.tables slots.new) }
+        ensures idle { result ≡ false → Idle
+            (moment self.old grid.old.tables slots.old)
+            (moment self.new grid.new.tables slots.new) }
+        ensures declined { result ≡ false → NoneSteps (P.kind grid.old.layout)
+            (moment self.old grid.old.tables slots.old) }
     {
         let mut went = false;
         for link in 0..grid.size().links() {
@@ -164,17 +189,20 @@ impl Rehearsal {
     }
 
     // A turn: all streams send, and each lane is stepped once. Whether anything went.
-    fn turn<L: Layout>(
+    fn turn<W: Ways, P: Policy<W>>(
         &mut self,
-        grid: &mut Grid<L>,
+        grid: &mut Grid<W, P>,
         slots: &mut [Strip],
         strips: u16,
         beat: Beat,
         turn: u64,
     ) -> bool
         ensures layout { grid.new.layout ≡ grid.old.layout }
-        ensures on { GoesOn (L.meaning grid.old.layout) strips self.old grid.old.tables slots.old result self.new grid.new.tables slots.new }
-        ensures rests { result ≡ false → Rests (L.meaning grid.old.layout) grid.new.tables slots.new strips self.new }
+        ensures on { GoesOn (P.kind grid.old.layout) strips result
+            (moment self.old grid.old.tables slots.old)
+            (moment self.new grid.new.tables slots.new) }
+        ensures rests { result ≡ false → Rests (P.kind grid.old.layout) strips
+            (moment self.new grid.new.tables slots.new) }
     {
         let mut went = self.send_all(grid, slots, strips, beat, turn);
         went |= self.sweep(grid, slots);
@@ -186,17 +214,16 @@ impl Rehearsal {
 /// It completes: every open stream lets in all its strips, and all of them come out, in order, by as many steps as were known ahead.
 ///
 /// Refuses too few slots by `TooFewSlots`, and a grid that has items by `ItemsOnGrid`.
-pub fn rehearse<L: Layout>(
-    grid: &mut Grid<L>,
+pub fn rehearse<W: Ways, P: Policy<W>>(
+    grid: &mut Grid<W, P>,
     slots: &mut [Strip],
     strips: u16,
     beat: Beat,
 ) -> Result<Rehearsal, Refusal>
     ensures layout { grid.new.layout ≡ grid.old.layout }
-    ensures made { MayRehearse (L.meaning grid.old.layout) strips grid.old.tables slots.old result grid.new.tables slots.new }
+    ensures made { MayRehearse (P.kind grid.old.layout) strips grid.old.tables slots.old result
+        grid.new.tables slots.new }
 {
-    // computes nothing: it hands the law to the proof
-    law_of_every_run::<Strip>();
     if slots.len() < grid.size().slots() {
         return Err(Refusal::TooFewSlots);
     }

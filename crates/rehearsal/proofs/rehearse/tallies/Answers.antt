@@ -12,8 +12,6 @@ loop-stream-preserved c =
     let there : c.loop-stream.stream < length c.args.streams.now = omega arith in
     let entry = get_or_default c.args.streams.now c.loop-stream.stream None c.index-streams-stream.result there in
     elim c.if-is_some.branch [
-      | then-is_some w ↦
-          rw w.tallies-is (begun_open c.args.streams.now c.loop-stream.stream c.loop-stream.tallies (omega arith) c.loop-stream.invariant (ap is_some entry ∙ sym w.if-is_some.ensures))
-      | else-is_some w ↦
-          rw w.tallies-is (begun_closed c.args.streams.now c.loop-stream.stream c.loop-stream.tallies (omega arith) c.loop-stream.invariant (ap is_some entry ∙ sym w.if-is_some.ensures))
+      | then-is_some w ↦ rw w.tallies-is (begun_open _ c.loop-stream.stream _ (omega arith) c.loop-stream.invariant (ap is_some entry ∙ sym w.if-is_some.ensures))
+      | else-is_some w ↦ rw w.tallies-is (begun_closed _ c.loop-stream.stream _ (omega arith) c.loop-stream.invariant (ap is_some entry ∙ sym w.if-is_some.ensures))
     ]

@@ -1,0 +1,4 @@
+pub mod Upward
+pub mod UpwardLaw
+pub mod Ring
+pub mod RingLaw

@@ -3,7 +3,7 @@ ghost use Rattle.std.specs.Prelude.{ℕ, ◌<◌, MatchOption};
 ghost use Rattle.layouts.specs.Mesh.{meaning_of};
 ghost use Rattle.planner.specs.Links.{Leads};
 
-use layouts::layout::Layout;
+use layouts::ways::Ways;
 use routes::load::link_load;
 use session::session::{GridOnMesh, Session};
 use std::io;

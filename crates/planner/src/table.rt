@@ -1,5 +1,5 @@
 // The open streams, as a table.
-use layouts::layout::Layout;
+use layouts::ways::Ways;
 use session::session::Session;
 use std::io;
 

@@ -2,11 +2,9 @@
 use Rattle.std.proofs.Common.{◌≡◌, ℕ, zero, suc, ◌+◌, ◌≤◌, List, length, Some, None, Ok, Option, Result, IsOk, refl, arith, length-append, subst, false, nat_lt}
 use Rattle.std.proofs.lemmas.Bool.Decides.{nat_tests}
 use Rattle.refusals.specs.declared.refusal.Refusal.{Refusal}
-use Rattle.layouts.specs.Layout.{Meaning, Lawful}
 use Rattle.routes.specs.Routes.{OpenStream}
 use Rattle.routes.specs.Loads.{stream_count}
 use Rattle.grid.specs.Blank.{making_refusal}
-use Rattle.grid.specs.Sound.{Sound}
 use Rattle.grid.specs.Views.{streams_in}
 use Rattle.grid.specs.declared.tables.Tables.{Tables}
 use Rattle.codec.specs.declared.head.Head.{Head}
@@ -16,7 +14,8 @@ use Rattle.plan.specs.Loads.{sizes_of}
 use Rattle.plan.specs.Plans.{numbered, listed, open_streams, plan_bytes}
 use Rattle.plan.specs.Verdicts.{sizes_in}
 use Rattle.plan.specs.Writes.{written}
-use Rattle.plan.proofs.Lengths.{small_head, small_stream, plan_short}
+use Rattle.plan.proofs.SmallStreams.{AllSmall}
+use Rattle.plan.proofs.Lengths.{small_head, plan_short}
 use Rattle.session.specs.Heads.{IsOfMesh, IsAllowed}
 
 -- a grid that is made has a head that is accepted for it
@@ -39,14 +38,13 @@ unfolding open_streams
 open_few streams = listed_few streams 0 stream_count
 
 -- the plan of a grid can be written
-pub plan_written : (h : Head) (m : Meaning) → Lawful m → (t : Tables) → Sound m t.lanes.size.lanes t.capacity (streams_in t) → IsAllowed h → sizes_in h ≡ sizes_of t
-    → written h t 3530 ≡ Ok (plan_bytes h (streams_in t))
-plan_written h m law t sound allowed fitting =
+pub plan_written : (h : Head) (t : Tables) → AllSmall (streams_in t) → IsAllowed h → sizes_in h ≡ sizes_of t → written h t 3530 ≡ Ok (plan_bytes h (streams_in t))
+plan_written h t small allowed fitting =
     let streams = streams_in t in
     let accepted : judged h (length (open_streams streams)) (sizes_of t) ≡ Ok tt =
     subst (λ sizes. judged h (length (open_streams streams)) sizes ≡ Ok tt) fitting (allowed _ (open_few streams)) in
     let short : length (plan_bytes h streams) ≤ 3530 =
-    plan_short h streams (sizes_of t) (small_head h _ _ accepted) (small_stream m law _ _ t.lanes.size.wide.1 streams sound) in
+    plan_short h streams (sizes_of t) (small_head h _ _ accepted) small in
     let fits : nat_lt 3530 (length (plan_bytes h streams)) ≡ false = grind (arith, nat_tests, short) in
     rw (accepted, fits) refl
 

@@ -3,6 +3,7 @@ use Rattle.std.specs.Prelude.{List, Option, vec_items}
 use Rattle.std.specs.Option.{option_map}
 use Rattle.layouts.specs.Layout.{Meaning}
 use Rattle.layouts.specs.Mesh.{meaning_of}
+use Rattle.model.specs.Kinds.{Kind, by_rules}
 use Rattle.lanes.specs.declared.strip.Strip.{Strip}
 use Rattle.grid.specs.declared.tables.Tables.{Tables}
 use Rattle.codec.specs.declared.head.Head.{Head}
@@ -15,6 +16,10 @@ pub record GridHand : Type 0 where
   pub layout : Meaning
   pub tables : Tables
   pub slots : List Strip
+
+-- the kind of the grid: by the rules of its layout
+abbrev pub kind_of : GridHand → Kind
+kind_of g = by_rules g.layout
 
 -- The meaning of the mesh made last, and the grid made last.
 pub record Hand : Type 0 where

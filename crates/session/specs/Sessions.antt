@@ -49,7 +49,7 @@ use Rattle.session.specs.declared.failure.Failure.TheVariants as failure
 use Rattle.session.specs.declared.failure.LineFailure.{LineFailure}
 use Rattle.session.specs.Failures.{making_failure}
 use Rattle.session.specs.Heads.{head_of}
-use Rattle.session.specs.Hands.{GridHand, Hand}
+use Rattle.session.specs.Hands.{GridHand, Hand, kind_of}
 
 -- the response to a command: its answer, or why it has none
 abbrev pub Response : Type 0
@@ -132,22 +132,22 @@ IsAsMade g g' = (g'.head ≡ g.head) × (g'.layout ≡ g.layout)
 -- The calls, each by what it answers and leaves of the grid. One that is lent no slots leaves them.
 abbrev pub Opens : ℕ → Request → List Hop → GridHand → Response → GridHand → Type 0
 Opens n q hops g r g' =
-    (a : Result (Unit {0}) Declined) × Edits g.layout g.tables (opens n q hops) (hop_answer a) g'.tables
+    (a : Result (Unit {0}) Declined) × Edits (kind_of g) g.tables (opens n q hops) (hop_answer a) g'.tables
     × IsAsMade g g' × (g'.slots ≡ g.slots) × (r ≡ ended a)
 
 abbrev pub Closes : ℕ → GridHand → Response → GridHand → Type 0
 Closes n g r g' =
-    (a : Result (Unit {0}) Refusal) × Edits g.layout g.tables (closes n) (answer_of (λ _. done) a) g'.tables
+    (a : Result (Unit {0}) Refusal) × Edits (kind_of g) g.tables (closes n) (answer_of (λ _. done) a) g'.tables
     × IsAsMade g g' × (g'.slots ≡ g.slots) × (r ≡ response_by (λ _. Accepted) a)
 
 abbrev pub Sends : ℕ → Strip → GridHand → Response → GridHand → Type 0
 Sends n x g r g' =
-    (a : Result (Unit {0}) Refusal) × Makes g.layout g.tables g.slots (sends n x) (answer_of (λ _. done) a) g'.tables g'.slots
+    (a : Result (Unit {0}) Refusal) × Makes (kind_of g) g.tables g.slots (sends n x) (answer_of (λ _. done) a) g'.tables g'.slots
     × IsAsMade g g' × (r ≡ response_by (λ _. Accepted) a)
 
 abbrev pub Steps : Hop → GridHand → Response → GridHand → Type 0
 Steps h g r g' =
-    (a : Result (Step Strip) Refusal) × Makes g.layout g.tables g.slots (steps h.link h.lane) (answer_of step_answer a) g'.tables g'.slots
+    (a : Result (Step Strip) Refusal) × Makes (kind_of g) g.tables g.slots (steps h.link h.lane) (answer_of step_answer a) g'.tables g'.slots
     × IsAsMade g g' × (r ≡ response_by stepped a)
 
 -- a route in a table of 24 hops, which are 0.0 behind its own
@@ -165,10 +165,10 @@ abbrev pub link_load : ℕ → GridHand → Response
 link_load k g = response_by Load (load_on g.layout.links (streams_in g.tables) k)
 
 abbrev pub count : Hop → GridHand → Response
-count h g = response_by Count (count_in (setting g.layout g.tables 0) (outline g.tables) h)
+count h g = response_by Count (count_in (setting (kind_of g) g.tables 0) (outline g.tables) h)
 
 abbrev pub items : GridHand → Response
-items g = Ok (Count (item_count (setting g.layout g.tables 0) (outline g.tables)))
+items g = Ok (Count (item_count (setting (kind_of g) g.tables 0) (outline g.tables)))
 
 -- the lanes that are to be stepped in turn
 abbrev pub lanes : GridHand → Response
@@ -198,7 +198,7 @@ loaded (Err f) = Err (failure.NotLoaded f)
 -- A load is lent no slots. The records ahead of a fault stay open.
 abbrev pub LoadsPlan : List ℕ → GridHand → Response → GridHand → Type 0
 LoadsPlan plan g r g' =
-    (a : Result ℕ LoadFault) × Loads g.layout g.tables plan a g'.tables × IsAsMade g g' × (g'.slots ≡ g.slots) × (r ≡ loaded a)
+    (a : Result ℕ LoadFault) × Loads (kind_of g) g.tables plan a g'.tables × IsAsMade g g' × (g'.slots ≡ g.slots) × (r ≡ loaded a)
 
 -- a plan in a table of 3530 bytes, which are 0 behind its own
 abbrev pub written : List ℕ → Answer
@@ -220,7 +220,7 @@ ChecksPlan plan r = (r ≡ checked (verdict_of plan)) ⊎ (IsOk (own_head (take 
 -- A rehearsal of so many strips of each open stream. Its beat, which stream sends when, is left open.
 abbrev pub RehearsesStreams : ℕ → GridHand → Response → GridHand → Type 0
 RehearsesStreams strips g r g' =
-    (a : Result Rehearsal Refusal) × MayRehearse g.layout strips g.tables g.slots a g'.tables g'.slots × IsAsMade g g' × (r ≡ response_by Rehearsed a)
+    (a : Result Rehearsal Refusal) × MayRehearse (kind_of g) strips g.tables g.slots a g'.tables g'.slots × IsAsMade g g' × (r ≡ response_by Rehearsed a)
 
 -- the grid at hand, with the width and the height in its head
 abbrev pub Shows : Mesh → Tables → ℕ → ℕ → Hand → Type 0

@@ -1,19 +1,51 @@
--- All lanes of a grid.
-use Rattle.std.proofs.Common.{◌≡◌, ℕ, zero, suc, ◌+◌, ◌<◌, ◌≤◌, true, false, List, [], ◌∷◌, ◌++◌, map, ◌⊎◌, inl, inr, sym, ◌∙◌, ⊎_elim, arith}
+-- All lanes of a grid, in the order of a sweep.
+use Rattle.std.proofs.Common.{◌≡◌, ℕ, zero, suc, ◌+◌, ◌<◌, ◌≤◌, true, false, List, [], ◌∷◌, ◌++◌, map, ◌⊎◌, inl, inr, refl, zero-add, append-nil, sym, ap, ◌∙◌, ⊎_elim, arith}
 use Rattle.std.specs.List.{AllByRecursion as All, flat_map, range_with_len}
 use Rattle.std.proofs.lemmas.Bool.{cases_eq, cases_Bool, true≢false, and_parts, ltb-true}
+use Rattle.std.proofs.lemmas.Grind.{flat_map-append}
+use Rattle.std.proofs.lemmas.List.FromFn.{map-range_with_len_more}
 use Rattle.routes.specs.Routes.{hop_on, is_on_grid}
 use Rattle.model.specs.Grid.{Setting, Grid, enough_slots}
 use Rattle.model.specs.Calls.{steps, outcome, lane_refusal, stepping}
-use Rattle.model.specs.Runs.{is_declined}
+use Rattle.model.specs.Runs.{History, ◌▸◌, then_steps, is_declined}
 use Rattle.model.specs.Law.{WillStep, NoLaneWillStep}
+use Rattle.model.specs.Sweeps.{lanes_of, all_lanes}
 
--- so many lanes of a link, and those of so many links: links rising, and lanes rising within a link
-abbrev lanes_of : ℕ → ℕ → List (ℕ × ℕ)
-lanes_of lanes link = map (λ lane. (link, lane)) (range_with_len 0 lanes)
+-- ---- one more
 
-abbrev pub all_lanes : ℕ → ℕ → List (ℕ × ℕ)
-all_lanes links lanes = flat_map (lanes_of lanes) (range_with_len 0 links)
+range_more : (a n : ℕ) → range_with_len a (n + 1) ≡ range_with_len a n ++ ((a + n) ∷ [])
+range_more a n =
+    sym (map_same (range_with_len a (n + 1)))
+    ∙ map-range_with_len_more (λ k. k) a n (a + n) refl
+    ∙ ap (λ l. l ++ ((a + n) ∷ [])) (map_same (range_with_len a n))
+  where
+    map_same : (l : List ℕ) → map (λ k. k) l ≡ l
+    map_same [] = refl
+    map_same (k ∷ l) = ap (λ l. k ∷ l) (map_same l)
+
+-- one lane more of a link, and one link more
+lanes_of_more : (lane link : ℕ) → lanes_of (lane + 1) link ≡ lanes_of lane link ++ ((link, lane) ∷ [])
+lanes_of_more lane link = map-range_with_len_more (λ lane. (link, lane)) 0 lane lane (omega arith)
+
+all_lanes_more : (link lanes : ℕ) → all_lanes (link + 1) lanes ≡ all_lanes link lanes ++ lanes_of lanes link
+all_lanes_more link lanes =
+    ap (flat_map (lanes_of lanes)) (range_more 0 link)
+    ∙ flat_map-append (lanes_of lanes) (range_with_len 0 link) ((0 + link) ∷ [])
+    ∙ ap (λ l. all_lanes link lanes ++ l) (ap (λ l. lanes_of lanes l ++ []) (zero-add link) ∙ append-nil (lanes_of lanes link))
+
+-- the steps of some lanes, and then those of more
+then_append : {T : Type 0} (past : History T) (first more : List (ℕ × ℕ)) → then_steps past (first ++ more) ≡ then_steps (then_steps past first) more
+then_append past [] more = refl
+then_append past (p ∷ first) more = then_append (past ▸ steps p.0 p.1) first more
+
+pub lane_past : {T : Type 0} (past : History T) (lane link : ℕ) → then_steps past (lanes_of lane link) ▸ steps link lane ≡ then_steps past (lanes_of (lane + 1) link)
+lane_past past lane link = sym (ap (then_steps past) (lanes_of_more lane link) ∙ then_append past (lanes_of lane link) ((link, lane) ∷ []))
+
+pub link_past : {T : Type 0} (past : History T) (lanes link : ℕ)
+    → then_steps (then_steps past (all_lanes link lanes)) (lanes_of lanes link) ≡ then_steps past (all_lanes (link + 1) lanes)
+link_past past lanes link = sym (ap (then_steps past) (all_lanes_more link lanes) ∙ then_append past (all_lanes link lanes) (lanes_of lanes link))
+
+-- ---- all of them
 
 -- What holds of all lanes holds of each.
 module _ (P : ℕ × ℕ → Type 0) where

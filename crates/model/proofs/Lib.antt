@@ -18,6 +18,8 @@ pub mod Standing
 pub mod SlotCounts
 pub mod Closes
 pub mod Onward
+pub mod Joins
+pub mod Sweeping
 pub mod Runs
 pub mod Loads
 pub mod Reopening

@@ -7,7 +7,8 @@ use Rattle.routes.specs.declared.hop.Hop.{Hop}
 use Rattle.routes.specs.Routes.{hop_on}
 use Rattle.model.specs.Waiting.{own, waiting}
 use Rattle.std.specs.List.{AllByRecursion as All}
-use Rattle.model.proofs.AllLanes.{all_lanes, Stuck, no_lane, some_or_stuck}
+use Rattle.model.specs.Sweeps.{all_lanes}
+use Rattle.model.proofs.AllLanes.{Stuck, no_lane, some_or_stuck}
 use Rattle.model.proofs.Along.{along_none}
 use Rattle.model.specs.Grid.{Setting, Queue, Grid, route_of}
 use Rattle.model.specs.Sums.{of_stream, queue_sum, grid_sum, one, item_count, ahead, hops_ahead}

@@ -12,3 +12,4 @@ pub mod Waiting
 pub mod Law
 pub mod Sound
 pub mod Reopening
+pub mod Sweeps

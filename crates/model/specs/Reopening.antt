@@ -12,8 +12,8 @@ use Rattle.model.specs.Safe.{Reached}
 abbrev pub streams_below : ℕ → Streams → Streams
 streams_below n streams k = if nat_lt k n then streams k else None
 
--- What is let in goes from tile to tile. Whatever streams are open, no link bears more than the capacity; and they can be
--- opened again in rising number: nothing declines one while those of lower numbers are open.
+-- What is let in goes from tile to tile. Whatever open streams openings and closings lead to, no link bears more than the capacity;
+-- and they can be opened again in rising number: nothing declines one while those of lower numbers are open.
 pub record Reopens (k : Kind) (lanes capacity : ℕ) : Type 0 where
   pub tiles : (streams : Streams) (q : Request) (hops : List Hop) → k.judge lanes capacity streams q hops ≡ None
       → (q.source < k.tiles) × (q.target < k.tiles)

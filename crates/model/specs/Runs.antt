@@ -110,3 +110,8 @@ handed_out_since S n (past ▸ c) = cond (opens_stream n c (answer_to S past c))
 abbrev pub then_steps : {T : Type 0} → History T → List (ℕ × ℕ) → History T
 then_steps past [] = past
 then_steps past (p ∷ more) = then_steps (past ▸ steps p.0 p.1) more
+
+-- a past with the calls of another history made next
+abbrev pub then_calls : {T : Type 0} → History T → History T → History T
+then_calls past start = past
+then_calls past (more ▸ c) = then_calls past more ▸ c

@@ -40,8 +40,8 @@ pub record Takes (S : Setting) (hops : List Hop) : Type 0 where
   pub count : count_fits hops ≡ true
   pub there : list_all (is_on_grid S.links S.lanes) hops ≡ true
 
--- A grid is safe if what its judgement lets in is such a route, and if, whatever streams are open, each route is proper and
--- some rank of the hops rises along all of them.
+-- A grid is safe if what its judgement lets in is such a route, and if, whatever open streams openings and closings lead to, each
+-- route is proper and some rank of the hops rises along all of them.
 pub record Safe (S : Setting) : Type 0 where
   pub takes : (streams : Streams) (q : Request) (hops : List Hop) → S.judge streams q hops ≡ None → Takes S hops
   pub proper : (streams : Streams) → Reached S.judge streams → (n : ℕ) → Proper S (route_of (streams n))

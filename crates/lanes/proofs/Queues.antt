@@ -24,7 +24,7 @@ slots_apart depth j k s t ne hs ht e =
 pub slot_in : (l : Lanes) (k t : ℕ) → k < lane_count l.size → t < l.size.depth → k * l.size.depth + t < slot_count l.size
 slot_in l k t hk ht = let m = mul-add-lt k l.size.depth t (lane_count l.size) hk ht in omega arith
 
-length-items : {T : Type 0} (l : Lanes) (xs : List T) → slot_count l.size ≤ length xs
+pub length-items : {T : Type 0} (l : Lanes) (xs : List T) → slot_count l.size ≤ length xs
     → length (cells (vec_items l.owners) xs) ≡ slot_count l.size
 length-items l xs enough =
     let n = length-cells (vec_items l.owners) xs (omega (arith, l.owners.ok.0, l.long)) in omega (arith, l.owners.ok.0, l.long)

@@ -1,8 +1,9 @@
 -- The laws of a ring's places.
-use Rattle.std.proofs.Common.{◌≡◌, ℕ, zero, suc, ◌+◌, ◌*◌, ◌/◌, ◌%◌, ◌<◌, ◌≤◌, ◌≢◌, List, [], ◌∷◌, ◌++◌, length, take, set, sym, refl, ap, ◌∙◌, ⊎_elim, append_assoc, append-nil, add-zero, mod-lt, mod-eq_of_lt, mul-le-mul_left, mul-suc, arith, length-append}
+use Rattle.std.proofs.Common.{◌≡◌, ℕ, zero, suc, ◌+◌, ◌*◌, ◌/◌, ◌%◌, ◌<◌, ◌≤◌, ◌≢◌, List, [], ◌∷◌, ◌++◌, length, take, get_or, set, sym, refl, ap, ◌∙◌, ⊎_elim, append_assoc, append-nil, add-zero, mod-lt, mod-eq_of_lt, mul-le-mul_left, mul-suc, arith, length-append}
 use native.Mathlib.Nat.{mod-add-mod, mod-add-div}
+use Rattle.std.proofs.Math.Seq.{get_or-append_seam}
 use Rattle.std.proofs.lemmas.Bool.{cases_lt}
-use Rattle.std.proofs.lemmas.List.{drop-set}
+use Rattle.std.proofs.lemmas.List.{drop-set, get_or_append_left}
 use Rattle.lanes.specs.Rings.{here, around}
 
 -- ---- one entry of a table
@@ -42,6 +43,23 @@ length-around xs base depth first (suc n) pos within =
     let front = length-around xs base depth first n pos within in
     let last = length-here xs (base + (first + n) % depth) (omega arith) in
     length-append (around xs base depth first n) (here xs (base + (first + n) % depth)) ∙ omega arith
+
+-- entry k of a ring, by the place that it stands at
+pub around_at : {A : Type 0} (xs : List A) (base depth first n k : ℕ) (e : A) → 0 < depth → base + depth ≤ length xs → k < n
+    → here xs (base + (first + k) % depth) ≡ e ∷ [] → get_or (around xs base depth first n) k e ≡ e
+around_at xs base depth first zero k e pos within low is = absurd (omega arith)
+around_at xs base depth first (suc n) k e pos within low is =
+    let front = around xs base depth first n in
+    let front_long = length-around xs base depth first n pos within in
+    ⊎_elim
+    (λ (before : k < n). get_or_append_left front _ e k (omega (arith, front_long)) ∙ around_at xs base depth first n k e pos within before is)
+    (λ (last : n ≤ k).
+    let same : n ≡ k = omega arith in
+    ap (λ j. get_or (front ++ here xs (base + (first + j) % depth)) k e) same
+    ∙ ap (λ one. get_or (front ++ one) k e) is
+    ∙ ap (λ j. get_or (front ++ (e ∷ [])) j e) (sym same ∙ sym front_long)
+    ∙ get_or-append_seam front e [] e)
+    (cases_lt k n)
 
 -- the first entry, and then the ring from the next place on
 pub around_front : {A : Type 0} (xs : List A) (base depth first n : ℕ) → first < depth

@@ -1,9 +1,10 @@
-// How many items the lanes contain.
-ghost use Rattle.std.specs.Prelude.{◌≡◌, ◌<◌, ◌≤◌, ◌==◌, count_by};
+// Which items the lanes contain, and how many.
+ghost use Rattle.std.specs.Prelude.{◌≡◌, ◌<◌, ◌≤◌, Some, ◌==◌, count_by, slice_get};
+ghost use Rattle.std.specs.Option.{option_map};
 ghost use Rattle.model.specs.Sums.{item_count, item_count_of};
 ghost use Rattle.model.specs.Questions.{count_in};
 ghost use Rattle.lanes.specs.Sizes.{lane_count, setting_of};
-ghost use Rattle.lanes.specs.Queues.{outline_at, outline};
+ghost use Rattle.lanes.specs.Queues.{ring_at, outline_at, outline};
 
 use crate::tables::Lanes;
 use refusals::refusal::Refusal;
@@ -32,19 +33,43 @@ impl Lanes {
         items
     }
 
+    // The stream of the item that stands so many items behind the front of lane k, where there is one.
+    fn stream_in(&self, k: usize, behind: u16) -> u16
+        requires lane { k < lane_count self.now.size }
+        requires some { behind < (ring_at self.now k).count }
+        ensures { slice_get (outline_at self.now k) behind ≡ Some (result, tt) }
+    {
+        let depth = self.size.depth;
+        // casts, as in `enter`
+        let slot = k * depth as usize + ((self.rings[k].first + behind) % depth) as usize;
+        self.owners[slot]
+    }
+
+    /// The stream of the item that stands so many items behind the front of the lane of a hop, at 0 that of the front. `None`
+    /// where the link or the lane is not there, and where the lane has no such item.
+    pub fn stream_at(&self, hop: Hop, behind: u16) -> Option<u16>
+        ensures { result ≡ option_map (λ i. i.0)
+            (slice_get ((outline self.now).contents hop.link hop.lane) behind) }
+    {
+        if !self.size.holds(hop) {
+            return None;
+        }
+        let k = self.size.lane(hop);
+        if behind >= self.rings[k].count {
+            return None;
+        }
+        Some(self.stream_in(k, behind))
+    }
+
     // How many items of a stream lane k contains.
     fn items_in(&self, k: usize, stream: u16) -> usize
         requires { k < lane_count self.now.size }
         ensures value { result ≡ count_by (λ i. i.0 == stream) (outline_at self.now k) }
         ensures bound { result ≤ 8 }
     {
-        let depth = self.size.depth;
-        let ring = self.rings[k];
         let mut items = 0;
-        for turn in 0..ring.count {
-            // casts, as in `enter`
-            let slot = k * depth as usize + ((ring.first + turn) % depth) as usize;
-            if self.owners[slot] == stream {
+        for behind in 0..self.rings[k].count {
+            if self.stream_in(k, behind) == stream {
                 items += 1;
             }
         }

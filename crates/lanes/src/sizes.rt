@@ -57,8 +57,8 @@ impl Size {
         hop.link < self.links && u16::from(hop.lane) < self.lanes
     }
 
-    // How many lanes there are, counted over all links.
-    pub(crate) fn lane_count(self) -> usize
+    /// How many lanes there are, counted over all links.
+    pub fn lane_count(self) -> usize
         ensures value { result ≡ lane_count self }
         ensures bound { result ≤ 4 * 65535 }
     {

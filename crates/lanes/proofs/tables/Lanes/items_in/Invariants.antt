@@ -3,5 +3,5 @@ use Rattle.lanes.proofs.Items.{count_to}
 use Rattle.lanes.proofs.tables.Lanes.items_in.Given as goal
 
 -- the stream's items among those passed
-abbrev pub invariant-loop-turn : goal.invariant-loop-turn
-invariant-loop-turn l = (l.items ≡ count_to l.self l.k l.stream l.ring.first l.turn) × (l.items ≤ l.turn)
+abbrev pub invariant-loop-behind : goal.invariant-loop-behind
+invariant-loop-behind l = (l.items ≡ count_to l.self l.k l.stream l.behind) × (l.items ≤ l.behind)

@@ -3,7 +3,7 @@ use Rattle.std.proofs.Common.{◌≡◌, List, length, refl, ap, ◌∙◌}
 use Rattle.model.specs.Kinds.{Kind, on_kind}
 use Rattle.model.specs.Grid.{Setting, Grid}
 use Rattle.model.specs.Calls.{Call, Answer, outcome}
-use Rattle.model.specs.Runs.{History, after_from, answer_from}
+use Rattle.model.specs.Runs.{History, after_from, answer_from, then_calls}
 use Rattle.model.proofs.SlotCounts.{length-slots_after}
 use Rattle.grid.specs.declared.tables.Tables.{Tables}
 use Rattle.grid.specs.Views.{view, setting}
@@ -18,6 +18,12 @@ pub makes_setting : {T : Type 0} {k : Kind} {t t' : Tables} {xs xs' : List T} {c
     → setting k t' (length xs') ≡ setting k t (length xs)
 makes_setting {k = k} {t' = t'} {xs' = xs'} makes =
     ap (λ s. on_kind k s.lanes s.depth t'.capacity (length xs')) makes.size ∙ rw (makes.capacity, makes_slots makes) refl
+
+-- calls in turn, and then more
+pub turn_then : {T : Type 0} {k : Kind} {t between : Tables} {xs slots : List T} {past more : History T} {t' : Tables} {xs' : List T}
+    → InTurn k t xs past between slots → InTurn k between slots more t' xs' → InTurn k t xs (then_calls past more) t' xs'
+turn_then first no_call = first
+turn_then first (one_more a so_far makes) = one_more a (turn_then first so_far) makes
 
 module _ {T : Type 0} (k : Kind) (t : Tables) (xs : List T) where
   abbrev S : Setting

@@ -2,8 +2,15 @@ pub mod Starting
 pub mod StreamTables
 pub mod Lifted
 pub mod ItemCalls
+pub mod HopsAhead
 pub mod Editing
 pub mod Seeking
 pub mod Reaching
 pub mod Stands
 pub mod InTurn
+pub mod Fronts
+pub mod Sweeping
+pub mod Bounding
+pub mod Shown
+pub mod Draining
+pub mod Most

@@ -1,8 +1,13 @@
 pub mod Placed
 pub mod Views
+pub mod HopsAhead
 pub mod Makes
 pub mod InTurn
 pub mod Laws
 pub mod Blank
 pub mod Routes
 pub mod Seeks
+pub mod Grids
+pub mod Sweeps
+pub mod Bounds
+pub mod Drains

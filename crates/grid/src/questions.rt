@@ -1,9 +1,10 @@
 // The questions, which change nothing.
 ghost use Rattle.std.specs.Prelude.{◌≡◌};
-ghost use Rattle.model.specs.Sums.{item_count};
+ghost use Rattle.model.specs.Sums.{item_count, hops_ahead};
 ghost use Rattle.model.specs.Questions.{fields_of, hops_of_stream, load_on, count_in};
 ghost use Rattle.grid.specs.Views.{streams_in, outline, setting};
 ghost use Rattle.grid.specs.Routes.{Puts};
+ghost use Rattle.grid.specs.Grids.{setting_with, outline_of};
 
 use crate::grid::Grid;
 use lanes::size::Size;
@@ -88,5 +89,13 @@ impl<W: Ways, P: Policy<W>> Grid<W, P> {
             (outline self.now.tables) }
     {
         self.tables.lanes.items()
+    }
+
+    /// How many hops are ahead, summed over the items on the grid: an item on hop k of n, counted from 0, has n − k ahead, and so
+    /// 1 on its last hop.
+    pub fn hops_ahead(&self) -> usize
+        ensures { result ≡ hops_ahead (setting_with self.now 0) (outline_of self.now) }
+    {
+        self.tables.hops_ahead()
     }
 }

@@ -29,10 +29,10 @@ pub(crate) fn request(source: u16, target: u16, demand: u16) -> Request {
 }
 
 // On the mesh of 2 × 2 tiles: from tile 0 east to tile 1 and north to tile 3.
-const EAST_NORTH: [Hop; 2] = [Hop { link: 0, lane: 0 }, Hop { link: 5, lane: 0 }];
+pub(crate) const EAST_NORTH: [Hop; 2] = [Hop { link: 0, lane: 0 }, Hop { link: 5, lane: 0 }];
 
 // A grid on a mesh of so many tiles each way, with 3 lanes and a capacity of 100, on which these streams are open.
-fn opened(
+pub(crate) fn opened(
     heap: Global,
     tiles: u16,
     depth: u16,

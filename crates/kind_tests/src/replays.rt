@@ -4,6 +4,7 @@ use crate::tests::{hop, request};
 use crate::upward::Upward;
 use codec::head::GridSizes;
 use grid::step::Step;
+use grid::sweep::Sweep;
 use refusals::refusal::Refusal;
 use routes::declined::Declined;
 use runs::call::{Call, Failure, Reply};
@@ -18,7 +19,8 @@ const SIZES: GridSizes = GridSizes {
     capacity: 100,
 };
 
-// Stream 7 goes up from tile 0 to tile 2, and then is declined on a way whose numbers fall.
+// Stream 7 goes up from tile 0 to tile 2: one item step by step, and one in a sweep, since the numbers of its links rise. Then it is
+// declined on a way whose numbers fall.
 #[test]
 fn replayed(rt: HostRuntime) -> Result<(), Fail> {
     let heap = rt.alloc();
@@ -29,14 +31,19 @@ fn replayed(rt: HostRuntime) -> Result<(), Fail> {
         Call::Send(7, 5),
         Call::Step(hop(0, 0)),
         Call::Step(hop(1, 0)),
+        Call::Send(7, 6),
+        Call::Sweep,
         Call::Close(7),
         Call::Open(7, request(3, 1, 60), down),
     ];
     let mut slots = [0; 20];
+    let (mut streams, mut items) = ([9; 10], [0; 10]);
     let mut lent = Lent {
         slots: &mut slots,
         values: &mut [],
         marks: &mut [],
+        streams: &mut streams,
+        items: &mut items,
     };
     let run: Run<Ring, Upward, u32> = replay(heap, Ring, SIZES, &mut lent, &calls)?;
     let declined = Failure::Declined(Declined {
@@ -49,9 +56,12 @@ fn replayed(rt: HostRuntime) -> Result<(), Fail> {
         Ok(Reply::Stepped(Step::Moved(7))),
         Ok(Reply::Stepped(Step::Out(7, 5))),
         Ok(Reply::Done),
+        Ok(Reply::Swept(Sweep { steps: 2, items: 1 })),
+        Ok(Reply::Done),
         Err(declined),
     ];
     assert_eq!(rt; run.answers.as_slice(), answers.as_slice());
+    assert_eq!(rt; (streams[0], items[0], items[1]), (7, 6, 0));
     assert_eq!(rt; run.grid.items(), 0);
     Ok(())
 }

@@ -1,5 +1,7 @@
 -- What making a call means.
-use Rattle.std.proofs.Common.{◌≡◌, ℕ, Bool, List, [], ◌∷◌, length, None, Ok, Err, Option, Result, sym, refl, ap, subst}
+use Rattle.std.proofs.Common.{◌≡◌, ℕ, Bool, false, List, [], ◌∷◌, length, None, Ok, Err, Option, Result, sym, refl, ap, subst, ◌∙◌}
+use Rattle.refusals.specs.declared.refusal.Refusal.{Refusal}
+use Rattle.routes.specs.Checks.{no_hop}
 use Rattle.routes.specs.declared.declined.Declined.{Declined}
 use Rattle.routes.specs.declared.hop.Hop.{Hop}
 use Rattle.model.specs.Kinds.{Kind}
@@ -10,15 +12,18 @@ use Rattle.grid.specs.declared.tables.Tables.{Tables}
 use Rattle.grid.specs.Views.{view, setting}
 use Rattle.grid.specs.Makes.{Makes}
 use Rattle.grid.specs.InTurn.{InTurn, no_call, one_more}
+use Rattle.grid.specs.Sweeps.{Workspace, suffices, TooFew}
 use Rattle.codec.specs.Records.{Entry}
 use Rattle.plan.specs.declared.fault.LoadFault.{LoadFault}
 use Rattle.plan.specs.Loads.{sizes_of, Opens, loading, loading_on, Loads}
+use Rattle.runs.specs.declared.call.Call.TheVariants.{Sweep}
 use Rattle.runs.specs.declared.call.Failure.{Failure}
+use Rattle.runs.specs.declared.call.Failure.TheVariants as failure
 use Rattle.runs.specs.declared.call.Reply.{Reply}
 use Rattle.runs.specs.Calls.{StandsFor, open_reply, load_reply}
 use Rattle.runs.specs.Routings.{Asked, opening_answer, OpensOn, OpensBy}
-use Rattle.runs.specs.Meanings.{MeansOpening, then_opened, MeansLoad, MeansOne}
-use Rattle.runs.specs.Making.{Shown}
+use Rattle.runs.specs.Meanings.{Conditions, may_sweep, MeansOpening, then_opened, MeansLoad, MeansOne}
+use Rattle.runs.specs.Making.{Shown, MakesCall}
 use Rattle.runs.proofs.Turns.{turn_same}
 use Rattle.runs.proofs.Edited.{opened}
 
@@ -50,6 +55,13 @@ on_lanes k t t' a (Err d) same = same.lanes
 pub opening_lanes : {searches : Bool} {Finds : Result (List Hop) Declined → Type 0} {k : Kind} {t t' : Tables} {a : Asked} {r : Result (Option ℕ) Declined}
     → OpensBy searches Finds k t a r t' → t'.lanes ≡ t.lanes
 opening_lanes {k = k} {t = t} {t' = t'} {a = a} by = on_lanes k t t' a by.found by.leaves
+
+-- a sweep that is declined
+pub sweep_declined : {R T : Type 0} (C : Conditions R) {before after : Workspace T} {entries : ℕ} {refusal : Refusal} → TooFew entries before refusal after
+    → may_sweep C ≡ suffices entries before → MakesCall C before.tables before.slots Sweep (Err (failure.Declined (no_hop refusal))) after.tables after.slots
+sweep_declined C {before = before} few is =
+    let cause : may_sweep C ≡ false = is ∙ few.cause in
+    (start, (rw (cause, few.told) refl, rw cause refl), subst (λ w. InTurn C.kind before.tables before.slots start w.tables w.slots) (sym few.unchanged) no_call)
 
 -- a load
 module _ {T : Type 0} (k : Kind) (t : Tables) (xs : List T) where

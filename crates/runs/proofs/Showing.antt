@@ -4,7 +4,7 @@ use Rattle.std.proofs.lemmas.Bool.{cases_Bool, leb-true}
 use Rattle.model.specs.Kinds.{Kind}
 use Rattle.model.specs.Grid.{Streams, Setting, Grid, enough_slots}
 use Rattle.model.specs.Calls.{Call, sends, steps, Answer, done, moved, out, send_refusal, sending, lane_refusal, stepping, outcome}
-use Rattle.model.specs.Runs.{is_declined}
+use Rattle.model.specs.Runs.{History, is_declined}
 use Rattle.model.specs.Outlines.{without_items}
 use Rattle.lanes.specs.Sizes.{slot_count}
 use Rattle.lanes.specs.declared.tables.Lanes.{Lanes}
@@ -14,7 +14,9 @@ use Rattle.grid.specs.Views.{streams_in, with_streams, setting, view}
 use Rattle.grid.specs.declared.step.Step.{Step}
 use Rattle.grid.specs.declared.step.Step.TheVariants.{Moved, Out}
 use Rattle.grid.specs.Makes.{step_answer, Makes}
-use Rattle.grid.proofs.Stands.{view_outline, lends_next}
+use Rattle.grid.specs.InTurn.{InTurn, no_call, one_more}
+use Rattle.grid.proofs.InTurn.{turn_size, turn_slots}
+use Rattle.grid.proofs.Stands.{view_outline}
 use Rattle.runs.specs.Making.{Shown}
 
 -- slots show the items of these lanes, whatever streams are open
@@ -40,15 +42,18 @@ module _ {T : Type 0} (S : Setting) (g : Grid T) where
       ⊎_elim (λ (yes : enough_slots S ≡ true). yes) (λ (no : enough_slots S ≡ false). let declined = rw no at goes in cc)
       (cases_Bool (enough_slots S))
 
--- After a call that is done and asks for slots enough, the slots show the items.
 module _ {T : Type 0} (k : Kind) (t t' : Tables) (links : k.links ≡ t.lanes.size.links) (xs xs' : List T) where
+  -- After calls in turn that are lent slots enough, the slots show the items.
+  pub shown_turn : {past : History T} → enough_slots (setting k t (length xs)) ≡ true → InTurn k t xs past t' xs' → Shown t' xs'
+  shown_turn enough turn =
+      let lends : slot_count t.lanes.size ≤ length xs = leb-true _ _ (rw links at enough) in
+      view_outline t' xs' (rw (turn_size k t xs turn, turn_slots k t xs turn) lends)
+
+  -- So they do after a call that is done and asks for slots enough.
   shown_by : (c : Call T) (a : Answer T) → Makes k t xs c a t' xs' → is_declined a ≡ false
       → (is_declined (outcome (setting k t (length xs)) (view t xs) c).answer ≡ false → enough_slots (setting k t (length xs)) ≡ true)
       → Shown t' xs'
-  shown_by c a made goes asks =
-      let enough : enough_slots (setting k t (length xs)) ≡ true = asks (ap is_declined (sym made.answer) ∙ goes) in
-      let lends : slot_count t.lanes.size ≤ length xs = leb-true _ _ (rw links at enough) in
-      view_outline t' xs' (lends_next k t links xs c a t' xs' made lends)
+  shown_by c a made goes asks = shown_turn (asks (ap is_declined (sym made.answer) ∙ goes)) (one_more a no_call made)
 
   pub shown_sent : (n : ℕ) (x : T) → Makes k t xs (sends n x) done t' xs' → Shown t' xs'
   shown_sent n x made = shown_by (sends n x) done made refl (send_enough (setting k t (length xs)) (view t xs) n x)

@@ -14,7 +14,6 @@ use Rattle.grid.specs.Makes.{Same}
 use Rattle.grid.specs.InTurn.{InTurn, no_call, one_more}
 use Rattle.grid.proofs.InTurn.{turn_setting, turn_size, turn_capacity, turn_grid}
 use Rattle.plan.specs.Loads.{sizes_of}
-use Rattle.runs.specs.Runs.{then_calls}
 
 -- ---- tables that show the same
 
@@ -52,12 +51,6 @@ module _ {T : Type 0} (k : Kind) where
       → InTurn k t xs past between xs' → Same between t' → InTurn k t xs past t' xs'
   turn_same {t = t} {xs = xs} {past = past} {between = between} {xs' = xs'} t' turn same =
       subst (λ t'. InTurn k t xs past t' xs') (sym (same_tables between t' same)) turn
-
-  -- calls in turn, and then more
-  pub turn_then : {t between : Tables} {xs slots : List T} {past more : History T} {t' : Tables} {xs' : List T}
-      → InTurn k t xs past between slots → InTurn k between slots more t' xs' → InTurn k t xs (then_calls past more) t' xs'
-  turn_then first no_call = first
-  turn_then first (one_more a so_far makes) = one_more a (turn_then first so_far) makes
 
   -- the sizes stay
   pub turn_sizes : {t : Tables} {xs : List T} {past : History T} {t' : Tables} {xs' : List T} → InTurn k t xs past t' xs' → sizes_of t' ≡ sizes_of t

@@ -9,7 +9,7 @@ use Rattle.plan.specs.Lines.{refusal_in, place_in}
 use Rattle.runs.specs.declared.call.Failure.{Failure}
 use Rattle.runs.specs.declared.call.Failure.TheVariants as failure
 use Rattle.runs.specs.declared.call.Reply.{Reply}
-use Rattle.runs.specs.declared.call.Reply.TheVariants.{Done, Found, Stepped, Loaded}
+use Rattle.runs.specs.declared.call.Reply.TheVariants.{Done, Found, Stepped, Swept, Loaded}
 
 -- why a call is not done, or a plan not loaded to its end; and the hop or the byte to blame, where one is told
 abbrev pub failure_refusal : Failure → Refusal
@@ -20,11 +20,12 @@ abbrev pub failure_place : Failure → Option ℕ
 failure_place (failure.Declined d) = d.hop
 failure_place (failure.NotLoaded f) = place_in f
 
--- A reply stands for the answer to a call of the grid in words. That of an opening which searched, or of a load, stands for none.
+-- A reply stands for the answer to a call of the grid in words. That of an opening which searched, of a sweep or of a load stands for none.
 abbrev pub StandsFor : {T : Type 0} → Result (Reply T) Failure → Answer T → Type 0
 StandsFor (Ok Done) a = a ≡ done
 StandsFor (Ok (Found count)) a = ⊥
 StandsFor (Ok (Stepped s)) a = a ≡ step_answer s
+StandsFor (Ok (Swept told)) a = ⊥
 StandsFor (Ok (Loaded count)) a = ⊥
 StandsFor (Err (failure.Declined d)) a = a ≡ declined d
 StandsFor (Err (failure.NotLoaded f)) a = ⊥

@@ -5,6 +5,7 @@ ghost use Rattle.runs.specs.Calls.{failure_refusal, failure_place};
 ghost use Rattle.runs.specs.declared.call.Failure.TheVariants as failure;
 
 use grid::step::Step;
+use grid::sweep::Sweep;
 use plan::fault::LoadFault;
 use refusals::refusal::Refusal;
 use routes::declined::Declined;
@@ -23,6 +24,8 @@ pub enum Call<T, R> {
     Send(u16, T),
     /// Step the lane of a hop.
     Step(Hop),
+    /// Try a step on every lane once, and write what comes out into the tables that are lent.
+    Sweep,
     /// Load a plan of these bytes.
     Load(Vec<u8>),
 }
@@ -36,6 +39,8 @@ pub enum Reply<T> {
     Found(usize),
     /// The lane has stepped.
     Stepped(Step<T>),
+    /// The lanes were swept: how many steps went, and how many items came out.
+    Swept(Sweep),
     /// The plan is loaded, of so many records.
     Loaded(usize),
 }

@@ -30,13 +30,15 @@ pub struct Run<W: Ways, P: Policy<W>, T> {
 /// Makes calls one after another on a grid that starts blank, with slots lent, enough or not, and records each answer. Openings that
 /// search for their routes are lent the scratch; what is in it afterwards is left open, and so is which of equally good routes they
 /// take. What is lent beyond the scratch of the grid is not touched. The load of a plan is as many openings as it opens records,
-/// also where a fault is behind them.
+/// also where a fault is behind them. A sweep is a step on every lane once, links rising and lanes rising within a link, and each
+/// writes what comes out by it into the two tables from their front; a sweep that is lent too few slots, or a table of fewer entries
+/// than there are lanes on all links, is declined, by `TooFewSlots`.
 ///
 /// The contract is what this project is for: on every kind of grid, whatever the calls, everything let in comes out, in order, a
 /// step is possible exactly while something is on the grid, and the count of steps is known ahead.
 ///
 /// Refuses what `Grid::blank` refuses, by `GridSize` and `ZeroAmount`, and else fails by `OutOfMemory` where there is no memory for the
-/// grid or the answers; the slots are then as before.
+/// grid or the answers; all that is lent is then as before.
 pub fn replay<W: Ways + Drop, P: Policy<W>, T: Copy, R: Routing<W, P>>(
     heap: Global,
     ways: W,
@@ -46,8 +48,8 @@ pub fn replay<W: Ways + Drop, P: Policy<W>, T: Copy, R: Routing<W, P>>(
 ) -> Result<Run<W, P, T>, MakeError>
     ensures run { let routes = finding R.searches R.finds ways in
         let C = conditions (P.kind ways) sizes routes lent.old in
-        IfOk result (λ run. Replays C lent.old.slots.now calls.now
-        run.answers.items run.grid.tables lent.new.slots.now) }
+        IfOk result (λ run. Replays C lent.old calls.now
+        run.answers.items run.grid.tables lent.new) }
     ensures layout { IfOk result (λ run. run.grid.layout ≡ ways) }
     ensures slices { SameSlices lent.old lent.new }
     ensures values { SameBeyond (values_needed (P.kind ways).links sizes.lanes)
@@ -55,7 +57,7 @@ pub fn replay<W: Ways + Drop, P: Policy<W>, T: Copy, R: Routing<W, P>>(
     ensures marks { SameBeyond (marks_needed (P.kind ways).links sizes.lanes)
         lent.old.marks.now lent.new.marks.now }
     ensures refused { IfErr result (λ e. NotMade sizes.lanes sizes.depth sizes.capacity e
-        × (lent.new.slots.now ≡ lent.old.slots.now)) }
+        × (lent.new ≡ lent.old)) }
 {
     let mut grid = Grid::blank(heap, ways, sizes.lanes, sizes.depth, sizes.capacity)?;
     // a place for each answer ahead of the first call, so that want of memory stops no run halfway

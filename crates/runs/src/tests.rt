@@ -8,6 +8,7 @@ use crate::replay::{Run, replay};
 use codec::head::GridSizes;
 use grid::make::MakeError;
 use grid::step::Step;
+use grid::sweep::Sweep;
 use lanes::strip::Strip;
 use layouts::mesh::Mesh;
 use layouts::turn_rule::TurnRule;
@@ -80,10 +81,17 @@ fn scratch() -> ([Either<u32, (u16, u16)>; 144], [u16; 1728]) {
     ([Either::First(0); 144], [0; 1728])
 }
 
-// A run of lamp words.
-fn run(
+// Tables for what comes out by sweeps of 24 links with three lanes.
+fn tables() -> ([u16; 72], [u32; 72]) {
+    ([99; 72], [9; 72])
+}
+
+// A run of lamp words, with tables lent for its sweeps.
+fn run_with(
     heap: Global,
     slots: &mut [u32],
+    streams: &mut [u16],
+    items: &mut [u32],
     calls: &[Call<u32, Routes>],
 ) -> Result<Run<Mesh, Climbing, u32>, Fail> {
     let mesh = Mesh::new(TurnRule::Xy, 3, 3)?;
@@ -92,8 +100,19 @@ fn run(
         slots,
         values: &mut values,
         marks: &mut marks,
+        streams,
+        items,
     };
     Ok(replay(heap, mesh, SIZES, &mut lent, calls)?)
+}
+
+// A run without sweeps.
+fn run(
+    heap: Global,
+    slots: &mut [u32],
+    calls: &[Call<u32, Routes>],
+) -> Result<Run<Mesh, Climbing, u32>, Fail> {
+    run_with(heap, slots, &mut [], &mut [], calls)
 }
 
 // Sends in an uneven order, then four rounds of steps, and a close.
@@ -188,6 +207,7 @@ fn strip_call(call: Call<u32, Routes>) -> Call<Strip, Routes> {
         Call::Close(stream) => Call::Close(stream),
         Call::Send(stream, word) => Call::Send(stream, strip(word)),
         Call::Step(hop) => Call::Step(hop),
+        Call::Sweep => Call::Sweep,
         Call::Load(plan) => Call::Load(plan),
     }
 }
@@ -198,6 +218,7 @@ fn strip_answer(answer: Answer<u32>) -> Answer<Strip> {
         Reply::Found(hops) => Reply::Found(hops),
         Reply::Stepped(Step::Moved(stream)) => Reply::Stepped(Step::Moved(stream)),
         Reply::Stepped(Step::Out(stream, word)) => Reply::Stepped(Step::Out(stream, strip(word))),
+        Reply::Swept(told) => Reply::Swept(told),
         Reply::Loaded(records) => Reply::Loaded(records),
     })
 }
@@ -213,6 +234,8 @@ fn strips_of_two_streams(rt: HostRuntime) -> Result<(), Fail> {
         slots: &mut slots,
         values: &mut values,
         marks: &mut marks,
+        streams: &mut [],
+        items: &mut [],
     };
     let run: Run<Mesh, Climbing, Strip> = replay(heap, mesh, SIZES, &mut lent, calls.as_slice())?;
     assert_eq!(rt;
@@ -258,6 +281,7 @@ fn refused_grids(rt: HostRuntime) -> Result<(), Fail> {
     let calls = calls(heap)?;
     let mut slots = [9; 144];
     let (mut values, mut marks) = scratch();
+    let (mut streams, mut items) = tables();
     for (lanes, depth, capacity, refusal) in [
         (0, 2, 100, Refusal::GridSize),
         (5, 2, 100, Refusal::GridSize),
@@ -276,6 +300,8 @@ fn refused_grids(rt: HostRuntime) -> Result<(), Fail> {
             slots: &mut slots,
             values: &mut values,
             marks: &mut marks,
+            streams: &mut streams,
+            items: &mut items,
         };
         let run: Result<Run<Mesh, Climbing, u32>, MakeError> = replay(
             heap,
@@ -286,6 +312,7 @@ fn refused_grids(rt: HostRuntime) -> Result<(), Fail> {
         );
         assert_eq!(rt; run.err(), Some(MakeError::Refused(refusal)));
         assert_eq!(rt; slots, [9; 144]);
+        assert_eq!(rt; (streams, items), tables());
     }
     Ok(())
 }
@@ -340,6 +367,104 @@ fn declined_in_the_middle(rt: HostRuntime) -> Result<(), Fail> {
     Ok(())
 }
 
+// Stream 7 goes from tile 2 to tile 0, over links whose numbers fall.
+fn open_7(heap: Global) -> Result<Call<u32, Routes>, Fail> {
+    let request = Request {
+        source: 2,
+        target: 0,
+        demand: 30,
+    };
+    let hops = vec![in heap; Hop { link: 7, lane: 0 }, Hop { link: 6, lane: 0 }]?;
+    Ok(Call::Open(7, request, GivenOrBest::Given(hops)))
+}
+
+// Two items of stream 5 and one of stream 7, and four sweeps.
+fn calls_with_sweeps(heap: Global) -> Result<Vec<Call<u32, Routes>>, Fail> {
+    let first = open_5(heap)?;
+    let second = open_7(heap)?;
+    Ok(vec![in heap;
+        first,
+        second,
+        Call::Send(5, 1),
+        Call::Send(5, 2),
+        Call::Send(7, 3),
+        Call::Sweep,
+        Call::Sweep,
+        Call::Sweep,
+        Call::Send(5, 4),
+        Call::Sweep,
+        Call::Close(5),
+    ]?)
+}
+
+fn swept(steps: usize, items: usize) -> Answer<u32> {
+    Ok(Reply::Swept(Sweep { steps, items }))
+}
+
+// An item of stream 5 goes over all of its three hops in one sweep, one of stream 7 over one hop. The last sweep writes over the
+// first of the two entries of the second one.
+#[test]
+fn sweeps(rt: HostRuntime) -> Result<(), Fail> {
+    let heap = rt.alloc();
+    let mut slots = [9; 144];
+    let (mut streams, mut items) = tables();
+    let calls = calls_with_sweeps(heap)?;
+    let run = run_with(heap, &mut slots, &mut streams, &mut items, calls.as_slice())?;
+    let expected = [
+        Ok(Reply::Done),
+        Ok(Reply::Done),
+        Ok(Reply::Done),
+        Ok(Reply::Done),
+        Ok(Reply::Done),
+        swept(4, 1),
+        swept(4, 2),
+        swept(0, 0),
+        Ok(Reply::Done),
+        swept(3, 1),
+        Ok(Reply::Done),
+    ];
+    assert_eq!(rt; run.answers.as_slice(), expected.as_slice());
+    assert_eq!(rt; streams.get(..3), Some(&[5, 5, 99][..]));
+    assert_eq!(rt; items.get(..3), Some(&[4, 2, 9][..]));
+    let left = [
+        (2, 4),
+        (3, 2),
+        (8, 4),
+        (9, 2),
+        (36, 3),
+        (42, 3),
+        (88, 4),
+        (89, 2),
+    ];
+    assert_eq!(rt; slots, slots_with(&left));
+    Ok(())
+}
+
+// With an entry too few in one of the tables, or a slot too few, no sweep is made.
+#[test]
+fn sweeps_lent_too_little(rt: HostRuntime) -> Result<(), Fail> {
+    let heap = rt.alloc();
+    let calls = calls_with_sweeps(heap)?;
+    for (slot_count, stream_count, item_count) in [(144, 71, 72), (144, 72, 71), (143, 72, 72)] {
+        let mut slots = [9; 144];
+        let (mut streams, mut items) = tables();
+        let run = run_with(
+            heap,
+            &mut slots[..slot_count],
+            &mut streams[..stream_count],
+            &mut items[..item_count],
+            calls.as_slice(),
+        )?;
+        for (call, answer) in calls.iter().zip(&run.answers) {
+            if let Call::Sweep = call {
+                assert_eq!(rt; *answer, refused(Refusal::TooFewSlots));
+            }
+        }
+        assert_eq!(rt; (streams, items), tables());
+    }
+    Ok(())
+}
+
 // Openings that are all given are lent no scratch.
 #[test]
 fn given_routes(rt: HostRuntime) -> Result<(), Fail> {
@@ -360,6 +485,8 @@ fn given_routes(rt: HostRuntime) -> Result<(), Fail> {
         slots: &mut slots,
         values: &mut [],
         marks: &mut [],
+        streams: &mut [],
+        items: &mut [],
     };
     let run: Run<Mesh, Climbing, u32> = replay(heap, mesh, SIZES, &mut lent, calls.as_slice())?;
     let no_turn = Declined {
@@ -414,6 +541,8 @@ fn seeks_by_two_measures(rt: HostRuntime) -> Result<(), Fail> {
         slots: &mut slots,
         values: &mut values,
         marks: &mut marks,
+        streams: &mut [],
+        items: &mut [],
     };
     let sizes = GridSizes {
         lanes: 1,
@@ -459,6 +588,8 @@ fn answers_on(
         slots: &mut slots,
         values: &mut values,
         marks: &mut marks,
+        streams: &mut [],
+        items: &mut [],
     };
     let sizes = GridSizes {
         lanes: 1,

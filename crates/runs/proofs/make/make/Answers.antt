@@ -1,13 +1,16 @@
 use Rattle.std.proofs.Common.{vec_items, Some, None, Ok, Err, refl}
+use Rattle.std.proofs.lemmas.Bool.{and_parts}
 use Rattle.std.proofs.lemmas.Result.{err_from_is_err_and}
 use Rattle.routes.specs.Checks.{no_hop}
 use Rattle.plan.proofs.Loading.{rest_stays}
-use Rattle.plan.specs.Loads.{loading_on}
+use Rattle.plan.specs.Loads.{sizes_of, loading_on}
 use Rattle.runs.specs.declared.call.Failure.TheVariants as failure
 use Rattle.runs.specs.declared.call.Reply.TheVariants.{Done, Stepped}
+use Rattle.runs.specs.Routings.{finding}
+use Rattle.runs.specs.Meanings.{conditions}
 use Rattle.runs.proofs.Edited.{closed}
-use Rattle.runs.proofs.Showing.{shown_same, shown_sent, shown_stepped}
-use Rattle.runs.proofs.Making.{one_made, opening_made, opening_lanes, load_made}
+use Rattle.runs.proofs.Showing.{shown_same, shown_sent, shown_stepped, shown_turn}
+use Rattle.runs.proofs.Making.{one_made, opening_made, opening_lanes, sweep_declined, load_made}
 use Rattle.runs.proofs.make.make.Goals as goal
 
 -- ---- an opening
@@ -120,3 +123,19 @@ returns-in_err-count-in-Load-clause-shown g c =
     let k = g.P.Policy.kind grid.layout in
     let stays = rest_stays k (loading_on k grid.tables c.as_slice.result.now).opened grid.tables c.load.new.grid.tables c.in_err-count-in-Load.ensures.made.1 in
     shown_same grid.tables c.load.new.grid.tables c.args.lent.now.slots.now stays.0 c.requires
+
+-- ---- a sweep
+
+pub returns-in_err-told-in-Sweep-clause-made : goal.returns-in_err-told-in-Sweep-clause-made
+returns-in_err-told-in-Sweep-clause-made g c =
+    let e = err_from_is_err_and c.from_residual-in_err-told-in-Sweep.result c.from_residual-in_err-told-in-Sweep.ensures.1 in
+    let grid = c.args.grid.now in
+    let C = conditions (g.P.Policy.kind grid.layout) (sizes_of grid.tables) (finding g.R.Routing.searches g.R.Routing.finds grid.layout) c.args.lent.now in
+    rw (c.in-Sweep.is, e.1, e.2) (sweep_declined C c.in_err-told-in-Sweep.ensures.sweeps refl)
+
+pub returns-in_ok-told-in-Sweep-clause-shown : goal.returns-in_ok-told-in-Sweep-clause-shown
+returns-in_ok-told-in-Sweep-clause-shown g c =
+    let swept = c.in_ok-told-in-Sweep.ensures.sweeps in
+    let grid = c.args.grid.now in
+    shown_turn (g.P.Policy.kind grid.layout) grid.tables c.sweep.new.self.tables grid.fits c.args.lent.now.slots.now c.sweep.new.slots
+    (and_parts _ _ swept.enough).0 swept.works.in_turn

@@ -16,7 +16,7 @@ loop-k-init g c =
     record {
       layout_is = c.in_ok-grid.ensures.layout;
       made =
-          made_none C c.in_ok-grid.grid.tables xs c.args.calls.now (vec_items c.in_ok-answers.answers) law refl blank
+          made_none C c.in_ok-grid.grid.tables c.args.lent.now c.args.calls.now (vec_items c.in_ok-answers.answers) law refl blank
           (omega (arith, c.in_ok-answers.ensures.len, c.in_ok-answers.answers.ok.0));
       slices = slices_refl c.args.lent.now;
       values = refl;
@@ -34,7 +34,8 @@ loop-k-preserved g c =
       layout_is = next.layout ∙ so_far.layout_is;
       made =
           made_more so_far.made c.loop-k-test.true c.index-calls-k.is c.make.result
-          (rw (so_far.layout_is, sizes, same.slot_count, same.value_count, same.mark_count) at next.made) next.shown;
+          (rw (so_far.layout_is, sizes, same.slot_count, same.value_count, same.mark_count, same.stream_count, same.item_count) at next.made)
+          (rw (so_far.layout_is, sizes, same.slot_count, same.value_count, same.mark_count, same.stream_count, same.item_count) at next.tables) next.shown;
       slices = slices_then same next.slices;
       values = rw (so_far.layout_is, lanes) at next.values ∙ so_far.values;
       marks = rw (so_far.layout_is, lanes) at next.marks ∙ so_far.marks;

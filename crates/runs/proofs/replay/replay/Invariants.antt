@@ -13,7 +13,7 @@ invariant-loop-k g l =
     let C = conditions k l.fn.sizes (finding g.R.Routing.searches g.R.Routing.finds l.fn.ways) l.fn.lent in
     record {
       layout_is : l.grid.layout ≡ l.fn.ways;
-      made : Made C l.initial.grid.tables l.fn.lent.slots.now l.calls l.k (vec_items l.answers) l.grid.tables l.lent.slots.now;
+      made : Made C l.initial.grid.tables l.fn.lent l.calls l.k (vec_items l.answers) l.grid.tables l.lent;
       slices : SameSlices l.fn.lent l.lent;
       values : SameBeyond (values_needed k.links l.fn.sizes.lanes) l.fn.lent.values.now l.lent.values.now;
       marks : SameBeyond (marks_needed k.links l.fn.sizes.lanes) l.fn.lent.marks.now l.lent.marks.now;

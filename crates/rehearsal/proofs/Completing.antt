@@ -7,7 +7,6 @@ use Rattle.routes.specs.declared.hop.Hop.{Hop}
 use Rattle.routes.specs.Routes.{OpenStream, is_on_grid}
 use Rattle.routes.specs.Loads.{stream_count}
 use Rattle.model.specs.Grid.{Setting, Queue, Grid, enough_slots, route_of}
-use Rattle.model.specs.Kinds.{Kind}
 use Rattle.model.specs.Sums.{of_stream, queue_sum, one, item_count}
 use Rattle.model.specs.Calls.{Call, sends, send_refusal}
 use Rattle.model.specs.Runs.{History, start, after_from, let_in_from, handed_out_from, hops_let_in_from}
@@ -16,13 +15,13 @@ use Rattle.model.specs.Law.{Goes, NoLaneWillStep}
 use Rattle.model.proofs.GridSums.{grid_sum_at}
 use Rattle.model.proofs.Onward.{all_came_out, all_hops_went}
 use Rattle.lanes.specs.declared.strip.Strip.{Strip}
-use Rattle.grid.specs.declared.tables.Tables.{Tables}
-use Rattle.grid.specs.Views.{streams_in, setting, view}
-use Rattle.grid.proofs.InTurn.{turn_setting, turn_grid}
+use Rattle.grid.specs.Sweeps.{Workspace, setting_in, grid_in}
 use Rattle.plan.specs.Plans.{open_streams}
 use Rattle.plan.specs.Summaries.{hop_count}
 use Rattle.rehearsal.specs.Strips.{strip_of, counted}
-use Rattle.rehearsal.specs.Rehearsals.{tally_of, tally_at, Moment, setting_at, grid_at, Rests, Stands, Completes, Rehearses}
+use Rattle.rehearsal.specs.Acts.{gone}
+use Rattle.rehearsal.specs.Rehearsals.{tally_of, tally_at, Moment, setting_at, grid_at, Rests, Stands, Completes}
+use Rattle.rehearsal.proofs.Acting.{stands_setting, stands_grid}
 use Rattle.rehearsal.proofs.Weights.{route_length, count, weighed, weighed_most, weighed_all}
 use Rattle.rehearsal.proofs.Beginning.{Ready}
 use Rattle.rehearsal.proofs.Entering.{Enters, acts_rows, acts_enter}
@@ -55,13 +54,12 @@ route_short S (Some s) takes = let count = (takes s refl).count in grind (arith,
 
 -- ---- a rehearsal
 
-module _ {k : Kind} {strips : ℕ} {t : Tables} {xs : List Strip} {went : ℕ} {now : Moment}
-    (stands : Stands k strips t xs went now) (ready : Ready k t xs) where
+module _ {strips : ℕ} {begun : Workspace Strip} {now : Moment} (stands : Stands strips begun now) (ready : Ready begun) where
   abbrev S : Setting
-  S = setting k t (length xs)
+  S = setting_in begun
 
   abbrev g : Grid Strip
-  g = view t xs
+  g = grid_in begun
 
   abbrev acts : History Strip
   acts = stands.acts
@@ -74,22 +72,22 @@ module _ {k : Kind} {strips : ℕ} {t : Tables} {xs : List Strip} {went : ℕ} {
   enters = acts_enter S g ready.kept acts stands.reports.are_acts
 
   -- no rehearsal goes on until a number of 64 bits cannot count it
-  pub not_endless : strips < 65536 → 18446744073709551615 ≤ went → ⊥
+  pub not_endless : strips < 65536 → 18446744073709551615 ≤ gone S g acts → ⊥
   not_endless narrow endless =
       let sends = weighed_most (λ _. 1) let_in strips 1 stands.reports.few (λ n. omega arith) in
-      let hops = weighed_most (route_length g.streams) let_in strips 24 stands.reports.few (λ n. route_short S (streams_in t n) (ready.takes n)) in
-      omega (arith, stands.many, enters.count, enters.hops, sends, hops, (ready.law acts).hops, ((ready.law start).empty ready.none).0)
+      let hops = weighed_most (route_length g.streams) let_in strips 24 stands.reports.few (λ n. route_short S (g.streams n) (ready.takes n)) in
+      omega (arith, endless, enters.count, enters.hops, sends, hops, (ready.law acts).hops, ((ready.law start).empty ready.none).0)
 
   -- a call that goes after the acts goes now
-  goes_now : (c : Call Strip) → Goes S (after_from S g acts) c → Goes (setting_at k now) (grid_at now) c
-  goes_now c goes = rw (turn_setting k t xs stands.in_turn, turn_grid k t xs stands.in_turn) goes
+  goes_now : (c : Call Strip) → Goes S (after_from S g acts) c → Goes (setting_at now) (grid_at now) c
+  goes_now c goes = rw (stands_setting stands, stands_grid stands) goes
 
-  module _ (rests : Rests k strips now) where
+  module _ (rests : Rests strips now) where
     -- no lane will step, so everything that was let in came out
     no_step : NoLaneWillStep S (after_from S g acts)
-    no_step = rw (turn_setting k t xs stands.in_turn, turn_grid k t xs stands.in_turn) at rests.no_step
+    no_step = rw (stands_setting stands, stands_grid stands) at rests.no_step
 
-    module _ (n : ℕ) (s : OpenStream) (low : n < stream_count) (is : streams_in t n ≡ Some s) where
+    module _ (n : ℕ) (s : OpenStream) (low : n < stream_count) (is : g.streams n ≡ Some s) where
       -- its tally
       told : tally_at now.report n ≡ Some (tally_of n (of_stream n let_in) (of_stream n (handed_out_from S g acts)))
       told = stands.reports.counts.tallies n low ∙ ap (option_map _) is
@@ -97,7 +95,7 @@ module _ {k : Kind} {strips : ℕ} {t : Tables} {xs : List Strip} {went : ℕ} {
       -- the lanes are empty, so no strip is left
       next_goes : Goes S (after_from S g acts) (sends n (strip_of n 0))
       next_goes =
-          lets_in S (after_from S g acts) ((ready.law acts).rests.1 no_step) n (strip_of n 0) s s.hops ready.enough t.lanes.size.deep.0 low
+          lets_in S (after_from S g acts) ((ready.law acts).rests.1 no_step) n (strip_of n 0) s s.hops (and_parts _ _ ready.enough).0 begun.tables.lanes.size.deep.0 low
           (ap (λ streams. streams n) enters.stay ∙ is) refl (ready.takes n s is)
 
       none_left : count n let_in < strips → ⊥
@@ -118,16 +116,15 @@ module _ {k : Kind} {strips : ℕ} {t : Tables} {xs : List Strip} {went : ℕ} {
           ∙ rw (acts_rows n S g acts stands.reports.are_acts, all_sent, held) refl
 
     -- a stream that is not open has no hops
-    hops_sent : (n : ℕ) → n < stream_count → (entry : Option OpenStream) → streams_in t n ≡ entry
+    hops_sent : (n : ℕ) → n < stream_count → (entry : Option OpenStream) → g.streams n ≡ entry
         → count n let_in * length (route_of entry) ≡ strips * length (route_of entry)
     hops_sent n low None is = mul-zero (count n let_in) ∙ sym (mul-zero strips)
     hops_sent n low (Some s) is = ap (λ i. i * length s.hops) (all_sent n s low is)
 
-    all_hops : weighed (route_length g.streams) let_in ≡ strips * hop_count (open_streams (streams_in t))
-    all_hops = weighed_all (streams_in t) let_in strips (λ n low. hops_sent n low (streams_in t n) refl)
+    all_hops : weighed (route_length g.streams) let_in ≡ strips * hop_count (open_streams g.streams)
+    all_hops = weighed_all g.streams let_in strips (λ n low. hops_sent n low (g.streams n) refl)
 
-    completes : strips < 65536 → now.report.ahead ≡ counted (strips * hop_count (open_streams (streams_in t)))
-        → Completes (streams_in t) strips now.report
+    pub completes : strips < 65536 → now.report.ahead ≡ counted (strips * hop_count (open_streams g.streams)) → Completes g.streams strips now.report
     completes narrow ahead = record {
       all = λ n s low is. tally_complete n s low is narrow;
       steps =
@@ -135,7 +132,3 @@ module _ {k : Kind} {strips : ℕ} {t : Tables} {xs : List Strip} {went : ℕ} {
           ∙ ap counted (all_hops_went S g ready.law ready.none acts no_step ∙ enters.hops ∙ all_hops)
           ∙ sym ahead;
     }
-
-    pub rehearses : strips < 65536 → now.report.ahead ≡ counted (strips * hop_count (open_streams (streams_in t))) → Rehearses k strips t xs now
-    rehearses narrow ahead =
-        record { acts = acts; in_turn = stands.in_turn; reports = stands.reports; ahead = ahead; ends = rests; completes = completes narrow ahead }

@@ -1,45 +1,30 @@
 -- Acts one after another.
-use Rattle.std.proofs.Common.{ℕ, ◌+◌, ◌≤◌, Bool, true, false, cond, ◌||◌, ◌∙◌, arith}
-use Rattle.model.specs.Kinds.{Kind}
-use Rattle.model.specs.Calls.{Call}
-use Rattle.model.specs.Law.{Goes}
-use Rattle.lanes.specs.declared.strip.Strip.{Strip}
-use Rattle.rehearsal.specs.Rehearsals.{Moment, setting_at, grid_at, Idle, GoesOn}
+use Rattle.std.proofs.Common.{◌≡◌, ℕ, ◌+◌, ◌≤◌, Bool, true, false, cond, ◌||◌, nat_lt, ◌∙◌, arith}
+use Rattle.std.proofs.lemmas.Bool.Decides.{nat_tests}
+use Rattle.rehearsal.specs.Rehearsals.{Moment, SendsNone, Idle, GoesOn}
 
--- ---- going on
-
-either_went : (a b : Bool) → cond (a || b) 1 0 ≤ cond a 1 0 + cond b 1 0
-either_went true b = omega arith
-either_went false b = omega arith
+-- one of two went
+either_went : (a b : Bool) (count : ℕ) → let then = cond a (count + 1) count in cond (a || b) (count + 1) count ≤ cond b (then + 1) then
+either_went true true count = omega arith
+either_went true false count = omega arith
+either_went false b count = omega arith
 
 -- acts, and then more
-pub goes_on_then : {k : Kind} {strips : ℕ} {a b : Bool} {before between after : Moment}
-    → GoesOn k strips a before between → GoesOn k strips b between after → GoesOn k strips (a || b) before after
+pub goes_on_then : {strips : ℕ} {a b : Bool} {before between after : Moment}
+    → GoesOn strips a before between → GoesOn strips b between after → GoesOn strips (a || b) before after
 goes_on_then {a = a} {b = b} one two = record {
-  stands = λ t xs count stands.
-      (let then = two.stands t xs (count + cond a 1 0) (one.stands t xs count stands) in record {
-        acts = then.acts;
-        in_turn = then.in_turn;
-        reports = then.reports;
-        many = omega (arith, then.many, either_went a b);
-      });
+  stands = λ begun count so_far.
+      (let then = two.stands begun (cond a (count + 1) count) (one.stands begun count so_far) in
+      record { stands = then.stands; many = omega (arith, then.many, either_went a b count) });
   ahead = two.ahead ∙ one.ahead;
 }
 
--- ---- staying as it was
+-- an act of a turn went, a send or a step
+pub turn_went : (sent : Bool) (steps count : ℕ) → (sent || nat_lt 0 steps) ≡ true → count + 1 ≤ cond sent (count + 1) count + steps
+turn_went true steps count went = omega arith
+turn_went false steps count went = grind (arith, nat_tests)
 
-pub idle_then : {before between after : Moment} → Idle before between → Idle between after → Idle before after
-idle_then one two = record {
-  report = two.report ∙ one.report;
-  tables = record {
-    lanes = two.tables.lanes ∙ one.tables.lanes;
-    streams = two.tables.streams ∙ one.tables.streams;
-    capacity = two.tables.capacity ∙ one.tables.capacity;
-  };
-  slots = two.slots ∙ one.slots;
-}
-
--- so a call goes afterwards that went before
-pub goes_after : (k : Kind) {before after : Moment} → Idle before after → (c : Call Strip)
-    → Goes (setting_at k before) (grid_at before) c → Goes (setting_at k after) (grid_at after) c
-goes_after k idle c goes = rw (idle.slots, idle.tables.lanes, idle.tables.streams, idle.tables.capacity) goes
+-- where all is as it was, a stream that sends no strip still sends none
+pub sends_none_still : {before after : Moment} → Idle before after → (strips n : ℕ) → SendsNone strips before n → SendsNone strips after n
+sends_none_still idle strips n none tally entry left x goes =
+    none tally (rw idle.report at entry) left x (rw (idle.kind, idle.slots, idle.tables.lanes, idle.tables.streams, idle.tables.capacity) at goes)

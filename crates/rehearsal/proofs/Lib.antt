@@ -8,3 +8,4 @@ pub mod Weights
 pub mod Entering
 pub mod Beginning
 pub mod Completing
+pub mod Turning

@@ -1,21 +1,23 @@
 // Rehearsing the open streams of a grid.
-ghost use Rattle.std.specs.Prelude.{◌≡◌, ℕ, ◌+◌, ◌<◌, [], false, if◌then◌else◌, ◌==◌, slice_index_or};
+ghost use Rattle.std.specs.Prelude.{◌≡◌, ℕ, ◌<◌, [], ◌∷◌, true, false, length, slice_index_or};
+ghost use Rattle.std.specs.List.{zip};
 ghost use Rattle.std.specs.Option.{option_map};
 ghost use Rattle.routes.specs.Routes.{streams_of};
 ghost use Rattle.routes.specs.Loads.{stream_count};
-ghost use Rattle.rehearsal.specs.Strips.{counted};
-ghost use Rattle.rehearsal.specs.Rehearsals.{tally_of, tally_at, taken, CountsStrip, moment, StepsNot, NoneSteps, SendsNone, NoneSends, Rests, Idle, GoesOn, MayRehearse};
+ghost use Rattle.grid.specs.Grids.{ways_of};
+ghost use Rattle.model.specs.Sweeps.{sweep_of};
+ghost use Rattle.grid.specs.Sweeps.{workspace, setting_in, lane_count_in, suffices, out_by, Swept};
+ghost use Rattle.rehearsal.specs.Rehearsals.{tally_of, Takes, CountsMore, moment, SendsNone, NoneSends, Idle, GoesOn, MayRehearse};
 
 use crate::beat::Beat;
 use crate::tally::{Tally, strip_of};
 use grid::grid::Grid;
-use grid::step::Step;
+use grid::sweep::Sweep;
 use lanes::strip::Strip;
 use layouts::ways::Ways;
 use plan::summary::summary;
 use policies::policy::Policy;
 use refusals::refusal::Refusal;
-use routes::hop::Hop;
 use routes::stream::Stream;
 
 /// What a rehearsal came to.
@@ -45,6 +47,17 @@ fn tallies(streams: &[Option<Stream>; 64]) -> [Option<Tally>; 64]
     tallies
 }
 
+// A strip of a stream came out.
+fn take(tallies: &mut [Option<Tally>; 64], stream: u16, strip: Strip)
+    ensures { Takes ((stream, strip) ∷ []) tallies.old tallies.new }
+{
+    if stream < 64 {
+        if let Some(tally) = tallies[usize::from(stream)] {
+            tallies[usize::from(stream)] = Some(tally.after(stream, strip));
+        }
+    }
+}
+
 impl Rehearsal {
     // A stream sends its next strip, if it has one left. Whether the strip was let in.
     fn send<W: Ways, P: Policy<W>>(
@@ -55,15 +68,13 @@ impl Rehearsal {
         strips: u16,
     ) -> bool
         requires { stream < stream_count }
-        ensures layout { grid.new.layout ≡ grid.old.layout }
-        ensures on { GoesOn (P.kind grid.old.layout) strips result
-            (moment self.old grid.old.tables slots.old)
-            (moment self.new grid.new.tables slots.new) }
+        ensures ways { ways_of grid.new ≡ ways_of grid.old }
+        ensures on { GoesOn strips result
+            (moment self.old grid.old slots.old) (moment self.new grid.new slots.new) }
         ensures idle { result ≡ false → Idle
-            (moment self.old grid.old.tables slots.old)
-            (moment self.new grid.new.tables slots.new) }
-        ensures declined { result ≡ false → SendsNone (P.kind grid.old.layout) strips
-            (moment self.old grid.old.tables slots.old) stream }
+            (moment self.old grid.old slots.old) (moment self.new grid.new slots.new) }
+        ensures declined { result ≡ false
+            → SendsNone strips (moment self.new grid.new slots.new) stream }
     {
         let number = usize::from(stream);
         let Some(tally) = self.tallies[number] else {
@@ -92,15 +103,11 @@ impl Rehearsal {
         beat: Beat,
         turn: u64,
     ) -> bool
-        ensures layout { grid.new.layout ≡ grid.old.layout }
-        ensures on { GoesOn (P.kind grid.old.layout) strips result
-            (moment self.old grid.old.tables slots.old)
-            (moment self.new grid.new.tables slots.new) }
-        ensures idle { result ≡ false → Idle
-            (moment self.old grid.old.tables slots.old)
-            (moment self.new grid.new.tables slots.new) }
-        ensures declined { result ≡ false → NoneSends (P.kind grid.old.layout) strips
-            (moment self.old grid.old.tables slots.old) }
+        ensures ways { ways_of grid.new ≡ ways_of grid.old }
+        ensures on { GoesOn strips result
+            (moment self.old grid.old slots.old) (moment self.new grid.new slots.new) }
+        ensures declined { result ≡ false
+            → NoneSends strips (moment self.new grid.new slots.new) }
     {
         let mut went = false;
         for stream in 0..64 {
@@ -111,120 +118,65 @@ impl Rehearsal {
         went
     }
 
-    // A strip of a stream came out.
-    fn take(&mut self, stream: u16, strip: Strip)
-        ensures row { strip.row < 65536 }
-        ensures steps { self.new.steps ≡ self.old.steps }
-        ensures items { self.new.items ≡ counted (self.old.items + 1) }
-        ensures ahead { self.new.ahead ≡ self.old.ahead }
-        ensures tallies { (n : ℕ) → n < stream_count → tally_at self.new n
-            ≡ (if stream == n then option_map (taken stream strip) (tally_at self.old n)
-            else tally_at self.old n) }
+    // So many steps went, and these strips came out, each of the stream beside it.
+    fn count(&mut self, steps: usize, streams: &[u16], strips: &[Strip])
+        requires { length strips.now ≡ length streams.now }
+        ensures { CountsMore steps (zip streams.now strips.now) self.old self.new }
     {
-        self.items = self.items.saturating_add(1);
-        if stream < 64 {
-            if let Some(tally) = self.tallies[usize::from(stream)] {
-                self.tallies[usize::from(stream)] = Some(tally.after(stream, strip));
-            }
+        self.steps = self.steps.saturating_add(steps as u64);
+        self.items = self.items.saturating_add(strips.len() as u64);
+        for (stream, strip) in streams.iter().zip(strips) {
+            take(&mut self.tallies, *stream, *strip);
         }
     }
 
-    // A step went, and this became of the strip.
-    fn count(&mut self, step: Step<Strip>)
-        ensures steps { self.new.steps ≡ counted (self.old.steps + 1) }
-        ensures ahead { self.new.ahead ≡ self.old.ahead }
-        ensures strip { CountsStrip self.old step self.new }
-    {
-        self.steps = self.steps.saturating_add(1);
-        match step {
-            Step::Moved(_) => {}
-            Step::Out(stream, strip) => self.take(stream, strip),
-        }
-    }
-
-    // Steps a lane. Whether the step went.
-    fn step<W: Ways, P: Policy<W>>(
+    // Sweeps the grid, and counts what it comes to.
+    fn sweep<W: Ways, P: Policy<W>>(
         &mut self,
         grid: &mut Grid<W, P>,
         slots: &mut [Strip],
-        hop: Hop,
-    ) -> bool
-        ensures layout { grid.new.layout ≡ grid.old.layout }
-        ensures on { (strips : ℕ) → GoesOn (P.kind grid.old.layout) strips result
-            (moment self.old grid.old.tables slots.old)
-            (moment self.new grid.new.tables slots.new) }
-        ensures idle { result ≡ false → Idle
-            (moment self.old grid.old.tables slots.old)
-            (moment self.new grid.new.tables slots.new) }
-        ensures declined { result ≡ false → StepsNot (P.kind grid.old.layout)
-            (moment self.old grid.old.tables slots.old) hop.link hop.lane }
+        streams: &mut [u16],
+        items: &mut [Strip],
+    ) -> Sweep
+        requires { let before = workspace grid.old slots.old streams.old items.old in
+            suffices (lane_count_in before) before ≡ true }
+        ensures ways { ways_of grid.new ≡ ways_of grid.old }
+        ensures swept { let before = workspace grid.old slots.old streams.old items.old in
+            Swept before result (workspace grid.new slots.new streams.new items.new) }
+        ensures counted { let before = workspace grid.old slots.old streams.old items.old in
+            CountsMore result.steps (out_by before (sweep_of (setting_in before)))
+            self.old self.new }
     {
-        let Ok(step) = grid.step(slots, hop) else {
-            return false;
-        };
-        self.count(step);
-        true
-    }
-
-    // Steps each lane once, links rising and lanes rising within a link. Whether a step went.
-    fn sweep<W: Ways, P: Policy<W>>(&mut self, grid: &mut Grid<W, P>, slots: &mut [Strip]) -> bool
-        ensures layout { grid.new.layout ≡ grid.old.layout }
-        ensures on { (strips : ℕ) → GoesOn (P.kind grid.old.layout) strips result
-            (moment self.old grid.old.tables slots.old)
-            (moment self.new grid.new.tables slots.new) }
-        ensures idle { result ≡ false → Idle
-            (moment self.old grid.old.tables slots.old)
-            (moment self.new grid.new.tables slots.new) }
-        ensures declined { result ≡ false → NoneSteps (P.kind grid.old.layout)
-            (moment self.old grid.old.tables slots.old) }
-    {
-        let mut went = false;
-        for link in 0..grid.size().links() {
-            // the most that a link has; a lane that is not there declines its step
-            for lane in 0..4 {
-                went |= self.step(grid, slots, Hop { link, lane });
-            }
-        }
-        went
-    }
-
-    // A turn: all streams send, and each lane is stepped once. Whether anything went.
-    fn turn<W: Ways, P: Policy<W>>(
-        &mut self,
-        grid: &mut Grid<W, P>,
-        slots: &mut [Strip],
-        strips: u16,
-        beat: Beat,
-        turn: u64,
-    ) -> bool
-        ensures layout { grid.new.layout ≡ grid.old.layout }
-        ensures on { GoesOn (P.kind grid.old.layout) strips result
-            (moment self.old grid.old.tables slots.old)
-            (moment self.new grid.new.tables slots.new) }
-        ensures rests { result ≡ false → Rests (P.kind grid.old.layout) strips
-            (moment self.new grid.new.tables slots.new) }
-    {
-        let mut went = self.send_all(grid, slots, strips, beat, turn);
-        went |= self.sweep(grid, slots);
-        went
+        // enough is lent
+        let told = grid.sweep(slots, streams, items).unwrap();
+        self.count(told.steps, &streams[..told.items], &items[..told.items]);
+        told
     }
 }
 
-/// Rehearses the open streams: each sends so many strips, in the beat, and the lanes step in turn, until nothing goes any more.
+/// Rehearses the open streams: each sends so many strips, in the beat, and the lanes are swept in turn, until nothing goes any more.
 /// It completes: every open stream lets in all its strips, and all of them come out, in order, by as many steps as were known ahead.
 ///
-/// Refuses too few slots by `TooFewSlots`, and a grid that has items by `ItemsOnGrid`.
+/// What comes out by a sweep is written into the two tables. What then stands in their first entries, one for each lane of each link,
+/// is left open; entries behind them are not touched.
+///
+/// Refuses too few slots, and a table of fewer entries than there are lanes on all links, by `TooFewSlots`, and then a grid that has
+/// items by `ItemsOnGrid`; what is lent is then as it was.
 pub fn rehearse<W: Ways, P: Policy<W>>(
     grid: &mut Grid<W, P>,
     slots: &mut [Strip],
+    streams: &mut [u16],
+    items: &mut [Strip],
     strips: u16,
     beat: Beat,
 ) -> Result<Rehearsal, Refusal>
-    ensures layout { grid.new.layout ≡ grid.old.layout }
-    ensures made { MayRehearse (P.kind grid.old.layout) strips grid.old.tables slots.old result
-        grid.new.tables slots.new }
+    ensures ways { ways_of grid.new ≡ ways_of grid.old }
+    ensures made { let before = workspace grid.old slots.old streams.old items.old in
+        MayRehearse strips before result (workspace grid.new slots.new streams.new items.new) }
 {
-    if slots.len() < grid.size().slots() {
+    let size = grid.size();
+    let lanes = size.lane_count();
+    if slots.len() < size.slots() || streams.len() < lanes || items.len() < lanes {
         return Err(Refusal::TooFewSlots);
     }
     if grid.items() != 0 {
@@ -239,7 +191,9 @@ pub fn rehearse<W: Ways, P: Policy<W>>(
     };
     // each turn but the last lets a strip in or takes one a hop on
     for turn in 0..u64::MAX {
-        if !rehearsal.turn(grid, slots, strips, beat, turn) {
+        let mut went = rehearsal.send_all(grid, slots, strips, beat, turn);
+        went |= rehearsal.sweep(grid, slots, streams, items).steps > 0;
+        if !went {
             break;
         }
     }

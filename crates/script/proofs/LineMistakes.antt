@@ -1,13 +1,13 @@
 -- No line reads as the mistake that the memory ran out.
 use Rattle.std.proofs.Common.{ℕ, Bool, true, false, cond, List, [], ◌∷◌, Ok, Err, arith}
 use Rattle.script.specs.declared.mistake.Mistake.TheVariants.{UnknownCommand}
-use Rattle.script.specs.Reads.{Read, OfTheLine, then}
+use Rattle.script.specs.Reads.{Read, OfTheLine, and_then}
 use Rattle.script.specs.Hops.{hops_in}
 use Rattle.script.specs.Hex.{pair_of, bytes_of, bytes_in}
 use Rattle.script.specs.Parts.{first_shape, first_number, first_measure, first_request, last_beat, nothing_more, only_number, only_hop, only_strip, request_and_hops}
 use Rattle.script.specs.Commands.{Instruction, question_named, show_named, call_named, named_instruction, command_of}
 
-then_mistakes : {A B : Type 0} (r : Read A) (f : A → Read B) → OfTheLine r → ((x : A) → OfTheLine (f x)) → OfTheLine (then r f)
+then_mistakes : {A B : Type 0} (r : Read A) (f : A → Read B) → OfTheLine r → ((x : A) → OfTheLine (f x)) → OfTheLine (and_then r f)
 then_mistakes (Ok x) f p q = q x
 then_mistakes (Err m) f p q = p
 
@@ -88,7 +88,7 @@ show_mistakes : (name : List ℕ) (ws : List (List ℕ)) → OfTheLine (show_nam
 show_mistakes name ws = search (parts, question_mistakes) depth 9
 
 call_mistakes : (name : List ℕ) (ws : List (List ℕ)) → OfTheLine (call_named name ws)
-call_mistakes name ws = search (parts, show_mistakes) depth 9
+call_mistakes name ws = search (parts, show_mistakes) depth 10
 
 named_mistakes : (name : List ℕ) (ws : List (List ℕ)) → OfTheLine (named_instruction name ws)
 named_mistakes name ws = search (parts, call_mistakes) depth 12

@@ -1,16 +1,16 @@
 -- What the words of a line say.
-use Rattle.std.specs.Prelude.{◌≡◌, ℕ, true, cond, ◌⊎◌, List, [], ◌∷◌, Some, None, Ok, Err, vec_items, codes, Option}
+use Rattle.std.specs.Prelude.{◌≡◌, ℕ, true, if◌then◌else◌, ◌⊎◌, List, [], ◌∷◌, Some, None, Ok, Err, vec_items, codes, Option}
 use Rattle.std.specs.Str.{bytes_eq}
 use Rattle.layouts.specs.declared.turn_rule.TurnRule.{TurnRule}
 use Rattle.routes.specs.declared.hop.Hop.{Hop}
 use Rattle.routes.specs.declared.stream.Request.{Request}
 use Rattle.lanes.specs.declared.strip.Strip.{Strip}
 use Rattle.script.specs.declared.command.Command.{Command}
-use Rattle.script.specs.declared.command.Command.TheVariants.{Mesh, Link, Turn, Judge, Grid, Open, Seek, Close, Send, Step, Stream, Route, LinkLoad, Count, Items, Drain, Load, Write, Check, Rehearse, Report, Streams, Picture, Say}
+use Rattle.script.specs.declared.command.Command.TheVariants.{Mesh, Link, Turn, Judge, Grid, Open, Seek, Close, Send, Step, Stream, Route, LinkLoad, Count, Items, Ahead, Sweep, Drain, Load, Write, Check, Rehearse, Report, Streams, Picture, Say}
 use Rattle.script.specs.declared.command.MeasureName.{MeasureName}
 use Rattle.script.specs.declared.command.BeatName.{BeatName}
 use Rattle.script.specs.declared.mistake.Mistake.TheVariants.{UnknownCommand}
-use Rattle.script.specs.Reads.{Read, then}
+use Rattle.script.specs.Reads.{Read, and_then}
 use Rattle.script.specs.Parts.{first_measure, first_number, first_shape, first_request, last_beat, behind, past, nothing_more, only_number, only_hop, only_strip, request_and_hops}
 use Rattle.script.specs.Hex.{bytes_in}
 
@@ -31,6 +31,8 @@ pub data Instruction : Type 0 where
   link_load : ℕ → Instruction
   count : Hop → Instruction
   items : Instruction
+  ahead : Instruction
+  sweeps : Instruction
   drains : Instruction
   loads : List ℕ → Instruction
   writes : Instruction
@@ -57,6 +59,8 @@ instruction_of (Route s) = route s
 instruction_of (LinkLoad k) = link_load k
 instruction_of (Count hop) = count hop
 instruction_of Items = items
+instruction_of Ahead = ahead
+instruction_of Sweep = sweeps
 instruction_of Drain = drains
 instruction_of (Load bytes) = loads (vec_items bytes)
 instruction_of Write = writes
@@ -70,107 +74,109 @@ instruction_of Say = says
 -- mesh RULE WIDTH HEIGHT, without its name
 abbrev pub mesh_instruction : List (List ℕ) → Read Instruction
 mesh_instruction ws =
-    then (first_shape ws) (λ m. then (nothing_more (past 3 ws)) (λ _. Ok (mesh m.0 m.1 m.2)))
+    and_then (first_shape ws) (λ m. and_then (nothing_more (past 3 ws)) (λ _. Ok (mesh m.0 m.1 m.2)))
 
 -- turn A B
 abbrev pub turn_instruction : List (List ℕ) → Read Instruction
 turn_instruction ws =
-    then (first_number ws) (λ a. then (first_number (behind ws)) (λ b.
-    then (nothing_more (past 2 ws)) (λ _. Ok (turn a b))))
+    and_then (first_number ws) (λ a. and_then (first_number (behind ws)) (λ b.
+    and_then (nothing_more (past 2 ws)) (λ _. Ok (turn a b))))
 
 -- judge FROM TO DEMAND HOP..
 abbrev pub judge_instruction : List (List ℕ) → Read Instruction
-judge_instruction ws = then (request_and_hops ws) (λ a. Ok (judge a.0 a.1))
+judge_instruction ws = and_then (request_and_hops ws) (λ a. Ok (judge a.0 a.1))
 
 -- grid RULE WIDTH HEIGHT LANES DEPTH CAPACITY
 abbrev pub grid_instruction : List (List ℕ) → Read Instruction
 grid_instruction ws =
-    then (first_shape ws) (λ m. then (first_number (past 3 ws)) (λ lanes. then (first_number (past 4 ws)) (λ depth.
-    then (first_number (past 5 ws)) (λ capacity. then (nothing_more (past 6 ws)) (λ _.
+    and_then (first_shape ws) (λ m. and_then (first_number (past 3 ws)) (λ lanes. and_then (first_number (past 4 ws)) (λ depth.
+    and_then (first_number (past 5 ws)) (λ capacity. and_then (nothing_more (past 6 ws)) (λ _.
     Ok (grid m.0 m.1 m.2 lanes depth capacity))))))
 
 -- open S FROM TO DEMAND HOP..
 abbrev pub open_instruction : List (List ℕ) → Read Instruction
-open_instruction ws = then (first_number ws) (λ s. then (request_and_hops (behind ws)) (λ a. Ok (opens s a.0 a.1)))
+open_instruction ws = and_then (first_number ws) (λ s. and_then (request_and_hops (behind ws)) (λ a. Ok (opens s a.0 a.1)))
 
 -- seek S FROM TO DEMAND MEASURE
 abbrev pub seek_instruction : List (List ℕ) → Read Instruction
 seek_instruction ws =
-    then (first_number ws) (λ s. then (first_request (behind ws)) (λ request. then (first_measure (past 4 ws)) (λ measure.
-    then (nothing_more (past 5 ws)) (λ _. Ok (seeks s request measure)))))
+    and_then (first_number ws) (λ s. and_then (first_request (behind ws)) (λ request. and_then (first_measure (past 4 ws)) (λ measure.
+    and_then (nothing_more (past 5 ws)) (λ _. Ok (seeks s request measure)))))
 
 -- send S FRAGMENT BAND ROW
 abbrev pub send_instruction : List (List ℕ) → Read Instruction
-send_instruction ws = then (first_number ws) (λ s. then (only_strip (behind ws)) (λ strip. Ok (sends s strip)))
+send_instruction ws = and_then (first_number ws) (λ s. and_then (only_strip (behind ws)) (λ strip. Ok (sends s strip)))
 
 -- rehearse STRIPS, or rehearse STRIPS BEAT
 abbrev pub rehearse_instruction : List (List ℕ) → Read Instruction
-rehearse_instruction ws = then (first_number ws) (λ strips. then (last_beat (behind ws)) (λ beat. Ok (rehearses strips beat)))
+rehearse_instruction ws = and_then (first_number ws) (λ strips. and_then (last_beat (behind ws)) (λ beat. Ok (rehearses strips beat)))
 
 -- the commands that name bytes, as load HEX..
 abbrev pub bytes_instruction : (List ℕ → Instruction) → List (List ℕ) → Read Instruction
-bytes_instruction f ws = then (bytes_in ws) (λ bytes. Ok (f bytes))
+bytes_instruction f ws = and_then (bytes_in ws) (λ bytes. Ok (f bytes))
 
 -- the commands that name a number, as link K
 abbrev pub number_instruction : (ℕ → Instruction) → List (List ℕ) → Read Instruction
-number_instruction f ws = then (only_number ws) (λ n. Ok (f n))
+number_instruction f ws = and_then (only_number ws) (λ n. Ok (f n))
 
 -- those that name a link and a lane, as step LINK LANE
 abbrev pub hop_instruction : (Hop → Instruction) → List (List ℕ) → Read Instruction
-hop_instruction f ws = then (only_hop ws) (λ hop. Ok (f hop))
+hop_instruction f ws = and_then (only_hop ws) (λ hop. Ok (f hop))
 
 -- and those that name nothing
 abbrev pub bare_instruction : Instruction → List (List ℕ) → Read Instruction
-bare_instruction i ws = then (nothing_more ws) (λ _. Ok i)
+bare_instruction i ws = and_then (nothing_more ws) (λ _. Ok i)
 
 -- the commands that ask about a grid
 abbrev pub question_named : List ℕ → List (List ℕ) → Read Instruction
 question_named name ws =
-    cond (bytes_eq name (codes "stream")) (number_instruction stream ws)
-    (cond (bytes_eq name (codes "route")) (number_instruction route ws)
-    (cond (bytes_eq name (codes "linkload")) (number_instruction link_load ws)
-    (cond (bytes_eq name (codes "count")) (hop_instruction count ws)
-    (cond (bytes_eq name (codes "items")) (bare_instruction items ws)
-    (cond (bytes_eq name (codes "write")) (bare_instruction writes ws)
-    (Err UnknownCommand))))))
+    if bytes_eq name (codes "stream") then number_instruction stream ws
+    else if bytes_eq name (codes "route") then number_instruction route ws
+    else if bytes_eq name (codes "linkload") then number_instruction link_load ws
+    else if bytes_eq name (codes "count") then hop_instruction count ws
+    else if bytes_eq name (codes "items") then bare_instruction items ws
+    else if bytes_eq name (codes "ahead") then bare_instruction ahead ws
+    else if bytes_eq name (codes "write") then bare_instruction writes ws
+    else Err UnknownCommand
 
 -- those that rehearse a plan and show it, and those that ask; the words behind say are any
 abbrev pub show_named : List ℕ → List (List ℕ) → Read Instruction
 show_named name ws =
-    cond (bytes_eq name (codes "check")) (bytes_instruction checks ws)
-    (cond (bytes_eq name (codes "rehearse")) (rehearse_instruction ws)
-    (cond (bytes_eq name (codes "report")) (bare_instruction reports ws)
-    (cond (bytes_eq name (codes "streams")) (bare_instruction streams ws)
-    (cond (bytes_eq name (codes "picture")) (bare_instruction picture ws)
-    (cond (bytes_eq name (codes "say")) (Ok says)
-    (question_named name ws))))))
+    if bytes_eq name (codes "check") then bytes_instruction checks ws
+    else if bytes_eq name (codes "rehearse") then rehearse_instruction ws
+    else if bytes_eq name (codes "report") then bare_instruction reports ws
+    else if bytes_eq name (codes "streams") then bare_instruction streams ws
+    else if bytes_eq name (codes "picture") then bare_instruction picture ws
+    else if bytes_eq name (codes "say") then Ok says
+    else question_named name ws
 
 -- those that change a grid, and all of these
 abbrev pub call_named : List ℕ → List (List ℕ) → Read Instruction
 call_named name ws =
-    cond (bytes_eq name (codes "open")) (open_instruction ws)
-    (cond (bytes_eq name (codes "seek")) (seek_instruction ws)
-    (cond (bytes_eq name (codes "close")) (number_instruction closes ws)
-    (cond (bytes_eq name (codes "send")) (send_instruction ws)
-    (cond (bytes_eq name (codes "step")) (hop_instruction steps ws)
-    (cond (bytes_eq name (codes "drain")) (bare_instruction drains ws)
-    (cond (bytes_eq name (codes "load")) (bytes_instruction loads ws)
-    (show_named name ws)))))))
+    if bytes_eq name (codes "open") then open_instruction ws
+    else if bytes_eq name (codes "seek") then seek_instruction ws
+    else if bytes_eq name (codes "close") then number_instruction closes ws
+    else if bytes_eq name (codes "send") then send_instruction ws
+    else if bytes_eq name (codes "step") then hop_instruction steps ws
+    else if bytes_eq name (codes "sweep") then bare_instruction sweeps ws
+    else if bytes_eq name (codes "drain") then bare_instruction drains ws
+    else if bytes_eq name (codes "load") then bytes_instruction loads ws
+    else show_named name ws
 
 -- all commands: these, and those that make a mesh or a grid or ask about a mesh
 abbrev pub named_instruction : List ℕ → List (List ℕ) → Read Instruction
 named_instruction name ws =
-    cond (bytes_eq name (codes "mesh")) (mesh_instruction ws)
-    (cond (bytes_eq name (codes "link")) (number_instruction link ws)
-    (cond (bytes_eq name (codes "turn")) (turn_instruction ws)
-    (cond (bytes_eq name (codes "judge")) (judge_instruction ws)
-    (cond (bytes_eq name (codes "grid")) (grid_instruction ws)
-    (call_named name ws)))))
+    if bytes_eq name (codes "mesh") then mesh_instruction ws
+    else if bytes_eq name (codes "link") then number_instruction link ws
+    else if bytes_eq name (codes "turn") then turn_instruction ws
+    else if bytes_eq name (codes "judge") then judge_instruction ws
+    else if bytes_eq name (codes "grid") then grid_instruction ws
+    else call_named name ws
 
 -- what the words of a line say, nothing where there is none
 abbrev pub command_of : List (List ℕ) → Read (Option Instruction)
 command_of [] = Ok None
-command_of (name ∷ ws) = then (named_instruction name ws) (λ i. Ok (Some i))
+command_of (name ∷ ws) = and_then (named_instruction name ws) (λ i. Ok (Some i))
 
 -- memory is needed by the commands that keep a list
 abbrev pub NeedsMemory : List (List ℕ) → Type 0

@@ -5,7 +5,7 @@ use Rattle.routes.specs.declared.hop.Hop.{Hop}
 use Rattle.routes.specs.Routes.{hop_on}
 use Rattle.script.specs.declared.mistake.Mistake.TheVariants.{NotAHop}
 use Rattle.script.specs.Numbers.{decimal_of}
-use Rattle.script.specs.Reads.{Read, then}
+use Rattle.script.specs.Reads.{Read, and_then}
 
 -- how many bytes stand ahead of the first dot; 46 is its code
 abbrev pub ahead_of_dot : List ℕ → ℕ
@@ -13,7 +13,7 @@ ahead_of_dot w = prefix_len (λ b. not (b == 46)) w
 
 -- the hop of a link and a lane, each in digits
 abbrev pub from_digits : List ℕ → List ℕ → Read Hop
-from_digits link lane = then (decimal_of 65535 link) (λ k. then (decimal_of 255 lane) (λ l. Ok (hop_on k l)))
+from_digits link lane = and_then (decimal_of 65535 link) (λ k. and_then (decimal_of 255 lane) (λ l. Ok (hop_on k l)))
 
 -- the hop of a link, and of what stands behind it: a dot and a lane
 abbrev pub dotted : List ℕ → List ℕ → Read Hop
@@ -27,4 +27,4 @@ hop_of w = dotted (take (ahead_of_dot w) w) (drop (ahead_of_dot w) w)
 -- the hops that words write
 abbrev pub hops_in : List (List ℕ) → Read (List Hop)
 hops_in [] = Ok []
-hops_in (w ∷ ws) = then (hop_of w) (λ hop. then (hops_in ws) (λ hops. Ok (hop ∷ hops)))
+hops_in (w ∷ ws) = and_then (hop_of w) (λ hop. and_then (hops_in ws) (λ hops. Ok (hop ∷ hops)))

@@ -13,7 +13,7 @@ use Rattle.script.specs.declared.command.BeatName.{BeatName}
 use Rattle.script.specs.declared.command.BeatName.TheVariants.{Even, Uneven}
 use Rattle.script.specs.declared.mistake.Mistake.TheVariants.{MissingWord, ExtraWord, UnknownRule, UnknownMeasure, UnknownBeat}
 use Rattle.script.specs.Numbers.{decimal_of}
-use Rattle.script.specs.Reads.{Read, then}
+use Rattle.script.specs.Reads.{Read, and_then}
 use Rattle.script.specs.Hops.{hops_in}
 
 -- the turn rule that a word names
@@ -66,12 +66,12 @@ first_large_number ws = first (decimal_of 4294967295) ws
 -- RULE WIDTH HEIGHT
 abbrev pub first_shape : List (List ℕ) → Read (TurnRule × ℕ × ℕ)
 first_shape ws =
-    then (first_rule ws) (λ rule. then (first_number (behind ws)) (λ w. then (first_number (past 2 ws)) (λ h. Ok (rule, w, h))))
+    and_then (first_rule ws) (λ rule. and_then (first_number (behind ws)) (λ w. and_then (first_number (past 2 ws)) (λ h. Ok (rule, w, h))))
 
 -- FROM TO DEMAND
 abbrev pub first_request : List (List ℕ) → Read Request
 first_request ws =
-    then (first_number ws) (λ from. then (first_number (behind ws)) (λ to. then (first_number (past 2 ws)) (λ demand.
+    and_then (first_number ws) (λ from. and_then (first_number (behind ws)) (λ to. and_then (first_number (past 2 ws)) (λ demand.
     Ok (record { source = from; target = to; demand = demand }))))
 
 abbrev pub nothing_more : List (List ℕ) → Read (Unit {0})
@@ -81,24 +81,24 @@ nothing_more (w ∷ ws) = Err ExtraWord
 -- BEAT, or nothing for the even one, and nothing more
 abbrev pub last_beat : List (List ℕ) → Read BeatName
 last_beat [] = Ok Even
-last_beat (w ∷ ws) = then (beat_of w) (λ beat. then (nothing_more ws) (λ _. Ok beat))
+last_beat (w ∷ ws) = and_then (beat_of w) (λ beat. and_then (nothing_more ws) (λ _. Ok beat))
 
 -- a number of 16 bits, and nothing more
 abbrev pub only_number : List (List ℕ) → Read ℕ
-only_number ws = then (first_number ws) (λ n. then (nothing_more (behind ws)) (λ _. Ok n))
+only_number ws = and_then (first_number ws) (λ n. and_then (nothing_more (behind ws)) (λ _. Ok n))
 
 -- LINK LANE, and nothing more
 abbrev pub only_hop : List (List ℕ) → Read Hop
 only_hop ws =
-    then (first_number ws) (λ link. then (first_small_number (behind ws)) (λ lane.
-    then (nothing_more (past 2 ws)) (λ _. Ok (hop_on link lane))))
+    and_then (first_number ws) (λ link. and_then (first_small_number (behind ws)) (λ lane.
+    and_then (nothing_more (past 2 ws)) (λ _. Ok (hop_on link lane))))
 
 -- FRAGMENT BAND ROW, and nothing more
 abbrev pub only_strip : List (List ℕ) → Read Strip
 only_strip ws =
-    then (first_large_number ws) (λ fragment. then (first_small_number (behind ws)) (λ band. then (first_number (past 2 ws)) (λ row.
-    then (nothing_more (past 3 ws)) (λ _. Ok (record { fragment = fragment; band = band; row = row })))))
+    and_then (first_large_number ws) (λ fragment. and_then (first_small_number (behind ws)) (λ band. and_then (first_number (past 2 ws)) (λ row.
+    and_then (nothing_more (past 3 ws)) (λ _. Ok (record { fragment = fragment; band = band; row = row })))))
 
 -- FROM TO DEMAND HOP..
 abbrev pub request_and_hops : List (List ℕ) → Read (Request × List Hop)
-request_and_hops ws = then (first_request ws) (λ request. then (hops_in (past 3 ws)) (λ hops. Ok (request, hops)))
+request_and_hops ws = and_then (first_request ws) (λ request. and_then (hops_in (past 3 ws)) (λ hops. Ok (request, hops)))

@@ -7,9 +7,9 @@ use Rattle.script.specs.declared.mistake.Mistake.TheVariants.{OutOfMemory}
 abbrev pub Read : Type 0 → Type 0
 Read A = Result A Mistake
 
-abbrev pub then : {A B : Type 0} → Read A → (A → Read B) → Read B
-then (Ok x) f = f x
-then (Err m) f = Err m
+abbrev pub and_then : {A B : Type 0} → Read A → (A → Read B) → Read B
+and_then (Ok x) f = f x
+and_then (Err m) f = Err m
 
 -- what a value says by f, or the mistake
 abbrev pub said : {A B : Type 0} → (A → B) → Read A → Read B

@@ -62,7 +62,11 @@ pub enum Command {
     Count(Hop),
     /// Tell how many items are on the grid.
     Items,
-    /// Step lanes in turn until none will step.
+    /// Tell how many hops are ahead.
+    Ahead,
+    /// Try a step on every lane once.
+    Sweep,
+    /// Sweep until nothing is on the grid.
     Drain,
     /// Load the plan of these bytes.
     Load(Vec<u8>),

@@ -1,7 +1,7 @@
 // Bytes, as words write them in base sixteen.
 ghost use Rattle.std.specs.Prelude.{◌≡◌, ◌++◌, Ok, vec_items};
 ghost use Rattle.script.specs.Hex.{digit_of, pair_of, bytes_of};
-ghost use Rattle.script.specs.Reads.{then, Parses};
+ghost use Rattle.script.specs.Reads.{and_then, Parses};
 
 use crate::mistake::Mistake;
 
@@ -23,7 +23,8 @@ fn pair(high: u8, low: u8) -> Result<u8, Mistake>
 
 /// Pushes the bytes that a word writes, two digits for each.
 pub(crate) fn push_bytes(bytes: &mut Vec<u8>, word: &[u8]) -> Result<(), Mistake>
-    ensures { Parses (λ _. vec_items bytes.new) (Unit {0}) (then (bytes_of word.now) (λ more. Ok (vec_items bytes.old ++ more))) result }
+    ensures { Parses (λ _. vec_items bytes.new) (Unit {0})
+        (and_then (bytes_of word.now) (λ more. Ok (vec_items bytes.old ++ more))) result }
 {
     let mut digits = word;
     while let [high, low, rest @ ..] = digits {

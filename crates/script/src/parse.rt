@@ -121,6 +121,7 @@ fn question(name: &[u8], words: &mut Words<'_>) -> Result<Command, Mistake>
         b"linkload" => words.only_number().map(Command::LinkLoad),
         b"count" => words.only_hop().map(Command::Count),
         b"items" => words.end().map(|()| Command::Items),
+        b"ahead" => words.end().map(|()| Command::Ahead),
         b"write" => words.end().map(|()| Command::Write),
         _ => Err(Mistake::UnknownCommand),
     }
@@ -151,6 +152,7 @@ fn call(heap: Global, name: &[u8], words: &mut Words<'_>) -> Result<Command, Mis
         b"close" => words.only_number().map(Command::Close),
         b"send" => words.send(),
         b"step" => words.only_hop().map(Command::Step),
+        b"sweep" => words.end().map(|()| Command::Sweep),
         b"drain" => words.end().map(|()| Command::Drain),
         b"load" => words.load(heap),
         _ => show(heap, name, words),

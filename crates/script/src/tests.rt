@@ -62,7 +62,7 @@ fn grid_commands(rt: HostRuntime) -> Result<(), Fail> {
         band: 255,
         row: 65535,
     };
-    let lines: [(&[u8], Command); 14] = [
+    let lines: [(&[u8], Command); 16] = [
         (
             b"grid west-first 3 4 2 8 100",
             Command::Grid {
@@ -98,6 +98,8 @@ fn grid_commands(rt: HostRuntime) -> Result<(), Fail> {
         (b"linkload 12", Command::LinkLoad(12)),
         (b"count 12 255", Command::Count(hop)),
         (b"items", Command::Items),
+        (b"ahead", Command::Ahead),
+        (b" sweep # once", Command::Sweep),
         (b"drain # to the end", Command::Drain),
     ];
     for (line, command) in lines {
@@ -184,7 +186,7 @@ fn mistakes(rt: HostRuntime) {
 
 #[test]
 fn grid_mistakes(rt: HostRuntime) {
-    let lines: [(&[u8], Mistake); 30] = [
+    let lines: [(&[u8], Mistake); 34] = [
         (b"grid xy 3 3 2 8", Mistake::MissingWord),
         (b"grid xy 3 3 2 8 100 1", Mistake::ExtraWord),
         (b"grid zigzag three", Mistake::UnknownRule),
@@ -213,6 +215,10 @@ fn grid_mistakes(rt: HostRuntime) {
         (b"count 12 3 0", Mistake::ExtraWord),
         (b"linkload", Mistake::MissingWord),
         (b"items 1", Mistake::ExtraWord),
+        (b"ahead 1", Mistake::ExtraWord),
+        (b"aheads", Mistake::UnknownCommand),
+        (b"sweep 1", Mistake::ExtraWord),
+        (b"sweeper", Mistake::UnknownCommand),
         (b"drain 1", Mistake::ExtraWord),
         (b"drained", Mistake::UnknownCommand),
     ];

@@ -7,6 +7,9 @@ use Rattle.script.proofs.parse.call.Goals as goal
 pub returns-in-close : goal.returns-in-close
 returns-in-close c = grind (arith, text_from_reads c.args.name.now (codes "close") (omega arith) (omega arith))
 
+pub returns-in-sweep : goal.returns-in-sweep
+returns-in-sweep c = grind (arith, text_from_reads c.args.name.now (codes "sweep") (omega arith) (omega arith))
+
 pub returns-in-drain : goal.returns-in-drain
 returns-in-drain c = grind (arith, text_from_reads c.args.name.now (codes "drain") (omega arith) (omega arith))
 
@@ -20,6 +23,7 @@ returns-in_default c =
       not (codes "close") (λ same. grind arith),
       not (codes "send") (λ same. grind arith),
       not (codes "step") (λ same. grind arith),
+      not (codes "sweep") (λ same. grind arith),
       not (codes "drain") (λ same. grind arith),
       not (codes "load") (λ same. grind arith),
     )

@@ -18,6 +18,9 @@ returns-in-count c = grind (arith, text_from_reads c.args.name.now (codes "count
 pub returns-in-items : goal.returns-in-items
 returns-in-items c = grind (arith, text_from_reads c.args.name.now (codes "items") (omega arith) (omega arith))
 
+pub returns-in-ahead : goal.returns-in-ahead
+returns-in-ahead c = grind (arith, text_from_reads c.args.name.now (codes "ahead") (omega arith) (omega arith))
+
 pub returns-in_default : goal.returns-in_default
 returns-in_default c =
     let not = no_name c.args.name.now in
@@ -27,6 +30,7 @@ returns-in_default c =
       not (codes "linkload") (λ same. grind arith),
       not (codes "count") (λ same. grind arith),
       not (codes "items") (λ same. grind arith),
+      not (codes "ahead") (λ same. grind arith),
       not (codes "write") (λ same. grind arith),
     )
     refl

@@ -1,7 +1,6 @@
 // The planner: reads scripts and prints the reply to each of their lines.
 #![tactic(auto)]
 
-mod drain;
 mod picture;
 mod run;
 mod table;

@@ -1,5 +1,4 @@
 // Running a script.
-use crate::drain::drain;
 use crate::picture::print_loads;
 use crate::table::print_streams;
 use rehearsal::total::Total;
@@ -31,11 +30,16 @@ pub(crate) fn run<R: BufRead + Drop>(rt: &HostRuntime, script: R) -> io::Result<
         number = number.saturating_add(1);
         match session.reply(rt.alloc(), number, line.as_slice()) {
             None => {}
-            Some(Ok(Answer::Drain(links, lanes))) => drain(rt, &mut session, links, lanes)?,
             Some(Ok(Answer::Say)) => say(rt, line.as_slice())?,
             Some(Ok(Answer::Streams)) => print_streams(rt, &session)?,
             Some(Ok(Answer::Picture)) => print_loads(rt, &session)?,
             Some(Ok(Answer::Report)) => println!(rt; "{total}")?,
+            Some(Ok(Answer::CameOut(steps, items))) => {
+                if let Some(out) = session.came_out(items) {
+                    print!(rt; "{out}")?;
+                }
+                println!(rt; "{}", Answer::CameOut(steps, items))?;
+            }
             Some(Ok(Answer::Rehearsed(rehearsal))) => {
                 total = total.and(&rehearsal);
                 println!(rt; "{}", Answer::Rehearsed(rehearsal))?;

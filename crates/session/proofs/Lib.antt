@@ -1,4 +1,4 @@
 pub mod OnGrids
 pub mod Measuring
 pub mod OwnPlans
-pub mod Rehearsing
+pub mod Lending

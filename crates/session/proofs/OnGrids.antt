@@ -10,11 +10,12 @@ use Rattle.session.specs.declared.session.Session.{Session}
 use Rattle.session.specs.Heads.{head_of}
 use Rattle.session.specs.Hands.{GridHand, Hand, grid_of, hand_of}
 use Rattle.session.specs.Sessions.{Response, NewGrid, MakesGrid, OnGrid}
+use Rattle.session.proofs.Lending.{complete}
 
 -- a call on the grid at hand leaves another in its place
 pub on_grid : (Calls : GridHand → Response → GridHand → Type 0) (s : Session) (g g' : GridAtHand) (r : Response) → s.grid ≡ Some g → Calls (grid_of g) r (grid_of g')
     → OnGrid Calls (hand_of s).mesh (hand_of s).grid r (hand_of (record { mesh = s.mesh; grid = Some g' }))
-on_grid Calls s g g' r is call = rw is ((g.grid.fits, g.all_slots), (grid_of g', call, refl))
+on_grid Calls s g g' r is call = rw is (complete g, (grid_of g', call, refl))
 
 -- a grid that is made is at hand, and so is its mesh
 pub grid_made : (before : Hand) (rule : TurnRule) (w h lanes depth capacity : ℕ) (mesh : Mesh) (g : GridAtHand) → InRange w h → meaning_of mesh ≡ mesh_meaning rule w h

@@ -12,19 +12,23 @@ use Rattle.routes.specs.Routes.{hop_on}
 use Rattle.routes.specs.declared.declined.Declined.{Declined}
 use Rattle.routes.specs.declared.hop.Hop.{Hop}
 use Rattle.routes.specs.declared.stream.Request.{Request}
-use Rattle.model.specs.Sums.{item_count}
+use Rattle.model.specs.Sums.{item_count, hops_ahead}
 use Rattle.model.specs.Calls.{opens, closes, sends, steps, answer_of, done}
 use Rattle.model.specs.Questions.{fields_of, hops_of_stream, load_on, count_in}
 use Rattle.lanes.specs.declared.strip.Strip.{Strip}
 use Rattle.lanes.specs.Sizes.{slot_count}
 use Rattle.search.specs.Scales.{total, peak}
 use Rattle.search.specs.Finds.{values_needed, marks_needed}
+use Rattle.grid.specs.declared.drain.Drain.{Drain}
 use Rattle.grid.specs.declared.step.Step.{Step}
 use Rattle.grid.specs.declared.step.Step.TheVariants as step
 use Rattle.grid.specs.Views.{streams_in, outline, setting}
+use Rattle.grid.specs.Drains.{Drained}
 use Rattle.grid.specs.Makes.{step_answer, hop_answer, Makes, Edits}
 use Rattle.grid.specs.declared.make.MakeError.{MakeError}
 use Rattle.grid.specs.Seeks.{Seeks}
+use Rattle.grid.specs.Sweeps.{Swept}
+use Rattle.grid.specs.declared.sweep.Sweep.{Sweep}
 use Rattle.grid.specs.Blank.{making_refusal, BlankTables, NotMade}
 use Rattle.codec.specs.declared.head.Head.{Head}
 use Rattle.plan.specs.declared.fault.LoadFault.{LoadFault}
@@ -43,13 +47,14 @@ use Rattle.script.specs.Reads.{Read}
 use Rattle.script.specs.Commands as command
 use Rattle.script.specs.Commands.{Instruction, command_of, NeedsMemory}
 use Rattle.session.specs.declared.answer.Answer.{Answer}
-use Rattle.session.specs.declared.answer.Answer.TheVariants.{Made, Ends, Turn, Accepted, Moved, Out, Fields, Route, Load, Count, Drain, Loaded, Written, Checked, Rehearsed, Report, Streams, Picture, Say}
+use Rattle.session.specs.declared.answer.Answer.TheVariants.{Made, Ends, Turn, Accepted, Moved, Out, Fields, Route, Load, Count, Ahead, CameOut, Loaded, Written, Checked, Rehearsed, Report, Streams, Picture, Say}
 use Rattle.session.specs.declared.failure.Failure.{Failure}
 use Rattle.session.specs.declared.failure.Failure.TheVariants as failure
 use Rattle.session.specs.declared.failure.LineFailure.{LineFailure}
 use Rattle.session.specs.Failures.{making_failure}
+use Rattle.session.specs.Entries.{entry_count}
 use Rattle.session.specs.Heads.{head_of}
-use Rattle.session.specs.Hands.{GridHand, Hand, kind_of}
+use Rattle.session.specs.Hands.{GridHand, Hand, kind_of, workspace_of}
 
 -- the response to a command: its answer, or why it has none
 abbrev pub Response : Type 0
@@ -84,11 +89,16 @@ by_mesh f (Some m) = f m
 
 -- ---- grids
 
--- a grid has the links of its layout, and as many slots as its lanes can contain items
-abbrev pub IsComplete : GridHand → Type 0
-IsComplete g = (g.layout.links ≡ g.tables.lanes.size.links) × (length g.slots ≡ slot_count g.tables.lanes.size)
+-- A grid has the links of its layout, as many slots as its lanes can contain items, and tables that are long enough for all that a drain
+-- brings out.
+pub record IsComplete (g : GridHand) : Type 0 where
+  pub links : g.layout.links ≡ g.tables.lanes.size.links
+  pub slots : length g.slots ≡ slot_count g.tables.lanes.size
+  pub streams : length g.streams ≡ entry_count g.tables.lanes.size
+  pub items : length g.items ≡ entry_count g.tables.lanes.size
 
--- A blank grid on a mesh, of the sizes in its head, with a slot for each item that its lanes can contain. What the slots hold is left open.
+-- A blank grid on a mesh, of the sizes in its head, with all that it is to be lent. What the slots and both tables for what comes out hold is
+-- left open.
 pub record NewGrid (m : Meaning) (head : Head) (g : GridHand) : Type 0 where
   pub allowed : making_refusal head.lanes head.depth head.capacity ≡ None
   pub head_is : g.head ≡ head
@@ -97,7 +107,7 @@ pub record NewGrid (m : Meaning) (head : Head) (g : GridHand) : Type 0 where
   pub enough : IsComplete g
 
 -- A grid is made on a mesh, and both are at hand; or its mesh is refused, or the grid, or there is no memory, and all is
--- as before. Memory has to hold the tables, the slots and the scratch of seeks, so also a grid that nothing declines may find none.
+-- as before. Memory has to hold the tables, all that is lent and the scratch of seeks, so also a grid that nothing declines may find none.
 abbrev pub MakesGrid : Hand → TurnRule → ℕ → ℕ → ℕ → ℕ → ℕ → Response → Hand → Type 0
 MakesGrid before rule w h lanes depth capacity r after =
     (InRange w h × ((g : GridHand) × NewGrid (mesh_meaning rule w h) (head_of rule w h lanes depth capacity) g
@@ -110,7 +120,7 @@ abbrev pub by_grid : (GridHand → Response) → Option GridHand → Response
 by_grid f None = Err (failure.Mistake NoGrid)
 by_grid f (Some g) = f g
 
--- a call on the grid at hand, which has all its slots, by what it answers and leaves of the grid
+-- a call on the grid at hand, which is lent enough, by what it answers and leaves of the grid
 abbrev pub OnGrid : (GridHand → Response → GridHand → Type 0) → Option Meaning → Option GridHand → Response → Hand → Type 0
 OnGrid Calls mesh None r after = (r ≡ Err (failure.Mistake NoGrid)) × (after ≡ record { mesh = mesh; grid = None })
 OnGrid Calls mesh (Some g) r after = IsComplete g × ((g' : GridHand) × Calls g r g' × (after ≡ record { mesh = mesh; grid = Some g' }))
@@ -126,29 +136,50 @@ stepped (step.Moved n) = Moved n
 stepped (step.Out n x) = Out n x
 
 -- what no call changes of a grid: its head and its layout
-abbrev pub IsAsMade : GridHand → GridHand → Type 0
-IsAsMade g g' = (g'.head ≡ g.head) × (g'.layout ≡ g.layout)
+pub record IsAsMade (g g' : GridHand) : Type 0 where
+  pub head : g'.head ≡ g.head
+  pub layout : g'.layout ≡ g.layout
 
--- The calls, each by what it answers and leaves of the grid. One that is lent no slots leaves them.
+-- what one that is lent the slots alone keeps: also both tables for what comes out
+pub record KeepsOut (g g' : GridHand) : Type 0 where
+  pub made : IsAsMade g g'
+  pub streams : g'.streams ≡ g.streams
+  pub items : g'.items ≡ g.items
+
+-- what one that is lent nothing keeps: also the slots
+pub record KeepsLent (g g' : GridHand) : Type 0 where
+  pub out : KeepsOut g g'
+  pub slots : g'.slots ≡ g.slots
+
+-- The calls, each by what it answers and leaves of the grid.
 abbrev pub Opens : ℕ → Request → List Hop → GridHand → Response → GridHand → Type 0
 Opens n q hops g r g' =
-    (a : Result (Unit {0}) Declined) × Edits (kind_of g) g.tables (opens n q hops) (hop_answer a) g'.tables
-    × IsAsMade g g' × (g'.slots ≡ g.slots) × (r ≡ ended a)
+    (a : Result (Unit {0}) Declined) × Edits (kind_of g) g.tables (opens n q hops) (hop_answer a) g'.tables × KeepsLent g g' × (r ≡ ended a)
 
 abbrev pub Closes : ℕ → GridHand → Response → GridHand → Type 0
 Closes n g r g' =
     (a : Result (Unit {0}) Refusal) × Edits (kind_of g) g.tables (closes n) (answer_of (λ _. done) a) g'.tables
-    × IsAsMade g g' × (g'.slots ≡ g.slots) × (r ≡ response_by (λ _. Accepted) a)
+    × KeepsLent g g' × (r ≡ response_by (λ _. Accepted) a)
 
 abbrev pub Sends : ℕ → Strip → GridHand → Response → GridHand → Type 0
 Sends n x g r g' =
     (a : Result (Unit {0}) Refusal) × Makes (kind_of g) g.tables g.slots (sends n x) (answer_of (λ _. done) a) g'.tables g'.slots
-    × IsAsMade g g' × (r ≡ response_by (λ _. Accepted) a)
+    × KeepsOut g g' × (r ≡ response_by (λ _. Accepted) a)
 
 abbrev pub Steps : Hop → GridHand → Response → GridHand → Type 0
 Steps h g r g' =
     (a : Result (Step Strip) Refusal) × Makes (kind_of g) g.tables g.slots (steps h.link h.lane) (answer_of step_answer a) g'.tables g'.slots
-    × IsAsMade g g' × (r ≡ response_by stepped a)
+    × KeepsOut g g' × (r ≡ response_by stepped a)
+
+-- A sweep of the grid, which is not refused. It tells how many steps went and how many items came out; these stand at the front of both tables.
+abbrev pub Sweeps : GridHand → Response → GridHand → Type 0
+Sweeps g r g' =
+    (told : Sweep) × Swept (workspace_of g) told (workspace_of g') × IsAsMade g g' × (r ≡ Ok (CameOut told.steps told.items))
+
+-- and a drain of it
+abbrev pub Drains : GridHand → Response → GridHand → Type 0
+Drains g r g' =
+    (told : Drain) × Drained (workspace_of g) told (workspace_of g') × IsAsMade g g' × (r ≡ Ok (CameOut told.steps told.items))
 
 -- a route in a table of 24 hops, which are 0.0 behind its own
 abbrev pub routed : List Hop → Answer
@@ -170,9 +201,8 @@ count h g = response_by Count (count_in (setting (kind_of g) g.tables 0) (outlin
 abbrev pub items : GridHand → Response
 items g = Ok (Count (item_count (setting (kind_of g) g.tables 0) (outline g.tables)))
 
--- the lanes that are to be stepped in turn
-abbrev pub lanes : GridHand → Response
-lanes g = Ok (Drain g.tables.lanes.size.links g.tables.lanes.size.lanes)
+abbrev pub ahead : GridHand → Response
+ahead g = Ok (Ahead (hops_ahead (setting (kind_of g) g.tables 0) (outline g.tables)))
 
 -- a seek answers the route that its stream has then, or what declines it
 abbrev pub sought : ℕ → GridHand → Result ℕ Declined → Response
@@ -184,21 +214,20 @@ abbrev pub SeeksByName : MeasureName → Meaning → Tables → ℕ → Request 
 SeeksByName Total m t n q a t' = Seeks total m t n q (values_needed m.links t.lanes.size.lanes) (marks_needed m.links t.lanes.size.lanes) a t'
 SeeksByName Peak m t n q a t' = Seeks peak m t n q (values_needed m.links t.lanes.size.lanes) (marks_needed m.links t.lanes.size.lanes) a t'
 
--- A seek is lent no slots. Which of equally good routes it takes is left open.
+-- A seek is lent its scratch alone. Which of equally good routes it takes is left open.
 abbrev pub Searches : ℕ → Request → MeasureName → GridHand → Response → GridHand → Type 0
 Searches n q measure g r g' =
-    (a : Result ℕ Declined) × SeeksByName measure g.layout g.tables n q a g'.tables
-    × IsAsMade g g' × (g'.slots ≡ g.slots) × (r ≡ sought n g' a)
+    (a : Result ℕ Declined) × SeeksByName measure g.layout g.tables n q a g'.tables × KeepsLent g g' × (r ≡ sought n g' a)
 
 -- what a load answers: how many records its plan has, or the fault
 abbrev pub loaded : Result ℕ LoadFault → Response
 loaded (Ok count) = Ok (Loaded count)
 loaded (Err f) = Err (failure.NotLoaded f)
 
--- A load is lent no slots. The records ahead of a fault stay open.
+-- A load is lent nothing. The records ahead of a fault stay open.
 abbrev pub LoadsPlan : List ℕ → GridHand → Response → GridHand → Type 0
 LoadsPlan plan g r g' =
-    (a : Result ℕ LoadFault) × Loads (kind_of g) g.tables plan a g'.tables × IsAsMade g g' × (g'.slots ≡ g.slots) × (r ≡ loaded a)
+    (a : Result ℕ LoadFault) × Loads (kind_of g) g.tables plan a g'.tables × KeepsLent g g' × (r ≡ loaded a)
 
 -- a plan in a table of 3530 bytes, which are 0 behind its own
 abbrev pub written : List ℕ → Answer
@@ -217,15 +246,21 @@ checked (Err f) = Err (failure.NotLoaded f)
 abbrev pub ChecksPlan : List ℕ → Response → Type 0
 ChecksPlan plan r = (r ≡ checked (verdict_of plan)) ⊎ (IsOk (own_head (take 4096 plan)) × (r ≡ Err (failure.Mistake OutOfMemory)))
 
--- A rehearsal of so many strips of each open stream. Its beat, which stream sends when, is left open.
+-- A rehearsal of so many strips of each open stream. Its beat, which stream sends when, is left open, and so is what then stands at the front of
+-- both tables for what comes out.
 abbrev pub RehearsesStreams : ℕ → GridHand → Response → GridHand → Type 0
 RehearsesStreams strips g r g' =
-    (a : Result Rehearsal Refusal) × MayRehearse (kind_of g) strips g.tables g.slots a g'.tables g'.slots × IsAsMade g g' × (r ≡ response_by Rehearsed a)
+    (a : Result Rehearsal Refusal) × MayRehearse strips (workspace_of g) a (workspace_of g') × IsAsMade g g' × (r ≡ response_by Rehearsed a)
 
 -- the grid at hand, with the width and the height in its head
 abbrev pub Shows : Mesh → Tables → ℕ → ℕ → Hand → Type 0
 Shows mesh tables w h hand =
     (g : GridHand) × (hand.grid ≡ Some g) × (g.layout ≡ meaning_of mesh) × (g.tables ≡ tables) × (g.head.width ≡ w) × (g.head.height ≡ h)
+
+-- the first entries of the tables for what comes out by the grid at hand: so many, or all where there are fewer
+abbrev pub ShowsOut : ℕ → List ℕ → List Strip → Hand → Type 0
+ShowsOut count streams items hand =
+    (g : GridHand) × (hand.grid ≡ Some g) × (streams ≡ take count g.streams) × (items ≡ take count g.items)
 
 -- ---- commands and lines
 
@@ -246,7 +281,9 @@ Answers before (command.route n) r after = (r ≡ by_grid (route n) before.grid)
 Answers before (command.link_load k) r after = (r ≡ by_grid (link_load k) before.grid) × (after ≡ before)
 Answers before (command.count h) r after = (r ≡ by_grid (count h) before.grid) × (after ≡ before)
 Answers before command.items r after = (r ≡ by_grid items before.grid) × (after ≡ before)
-Answers before command.drains r after = (r ≡ by_grid lanes before.grid) × (after ≡ before)
+Answers before command.ahead r after = (r ≡ by_grid ahead before.grid) × (after ≡ before)
+Answers before command.sweeps r after = OnGrid Sweeps before.mesh before.grid r after
+Answers before command.drains r after = OnGrid Drains before.mesh before.grid r after
 Answers before (command.loads plan) r after = OnGrid (LoadsPlan plan) before.mesh before.grid r after
 Answers before command.writes r after = (r ≡ by_grid plan_of before.grid) × (after ≡ before)
 Answers before (command.checks plan) r after = ChecksPlan plan r × (after ≡ before)

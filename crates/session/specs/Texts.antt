@@ -1,14 +1,16 @@
 -- How answers and failures are written.
 use Rattle.std.specs.Prelude.{ℕ, zero, suc, ◌/◌, ◌%◌, Bool, true, false, List, [], ◌∷◌, ◌++◌, min, take, flat_map, Some, None, codes, decimal, Option, slice_index_or}
+use Rattle.std.specs.List.{zip}
 use Rattle.std.specs.Fmt.{digit_glyph}
 use Rattle.refusals.specs.Numbers.{refusal_number}
 use Rattle.layouts.specs.Turns.{word_of}
 use Rattle.routes.specs.declared.hop.Hop.{Hop}
 use Rattle.plan.specs.Lines.{fault_text, summary_text}
+use Rattle.lanes.specs.declared.strip.Strip.{Strip}
 use Rattle.rehearsal.specs.declared.tally.Tally.{Tally}
 use Rattle.script.specs.Mistakes.{text_of}
 use Rattle.session.specs.declared.answer.Answer.{Answer}
-use Rattle.session.specs.declared.answer.Answer.TheVariants.{Made, Ends, Turn, Accepted, Moved, Out, Fields, Route, Load, Count, Drain, Loaded, Written, Checked, Rehearsed, Report, Streams, Picture, Say}
+use Rattle.session.specs.declared.answer.Answer.TheVariants.{Made, Ends, Turn, Accepted, Moved, Out, Fields, Route, Load, Count, Ahead, CameOut, Loaded, Written, Checked, Rehearsed, Report, Streams, Picture, Say}
 use Rattle.session.specs.declared.failure.Failure.{Failure}
 use Rattle.session.specs.declared.failure.Failure.TheVariants as failure
 use Rattle.session.specs.declared.failure.LineFailure.{LineFailure}
@@ -42,7 +44,7 @@ tally_lines tallies zero = []
 tally_lines tallies (suc n) = tally_lines tallies n ++ tally_line n (slice_index_or tallies n None)
 
 -- ok TILES LINKS, ok START END, a turn's word, ok, moved STREAM, out STREAM FRAGMENT BAND ROW, ok FROM TO DEMAND,
--- ok HOPS HOP.., ok LOAD, ok COUNT, drain LINKS LANES, ok RECORDS, ok BYTES HEX, ok STREAMS HOPS LOAD, what was
+-- ok HOPS HOP.., ok LOAD, ok COUNT, ok HOPS, ok STEPS ITEMS, ok RECORDS, ok BYTES HEX, ok STREAMS HOPS LOAD, what was
 -- seen of each stream with ok STEPS ITEMS, or the name of a command whose answer is told by who runs the script
 abbrev pub answer_text : Answer → List ℕ
 answer_text (Made tiles links) = codes "ok " ++ (decimal tiles ++ (codes " " ++ decimal links))
@@ -55,7 +57,8 @@ answer_text (Fields q) = codes "ok " ++ (decimal q.source ++ (codes " " ++ (deci
 answer_text (Route table count) = codes "ok " ++ (decimal count ++ flat_map hop_text (take (min count 24) table))
 answer_text (Load n) = codes "ok " ++ decimal n
 answer_text (Count n) = codes "ok " ++ decimal n
-answer_text (Drain links lanes) = codes "drain " ++ (decimal links ++ (codes " " ++ decimal lanes))
+answer_text (Ahead hops) = codes "ok " ++ decimal hops
+answer_text (CameOut steps items) = codes "ok " ++ (decimal steps ++ (codes " " ++ decimal items))
 answer_text (Loaded records) = codes "ok " ++ decimal records
 answer_text (Checked summary) = summary_text summary
 answer_text (Rehearsed r) = tally_lines r.tallies 64 ++ (codes "ok " ++ (decimal r.steps ++ (codes " " ++ decimal r.items)))
@@ -64,6 +67,13 @@ answer_text Streams = codes "streams"
 answer_text Picture = codes "picture"
 answer_text Say = codes "say"
 answer_text (Written table count) = codes "ok " ++ (decimal count ++ (codes " " ++ flat_map byte_text (take (min count 3530) table)))
+
+-- what came out, a line for each item with its stream: out STREAM FRAGMENT BAND ROW
+abbrev pub out_line : (ℕ × Strip) → List ℕ
+out_line i = answer_text (Out i.0 i.1) ++ 10 ∷ []
+
+abbrev pub out_lines : List ℕ → List Strip → List ℕ
+out_lines streams items = flat_map out_line (zip streams items)
 
 -- why the call was declined, error LINE: what is wrong, or fault LAYER RECORD REFUSAL PLACE
 abbrev pub failed_text : ℕ → Failure → List ℕ

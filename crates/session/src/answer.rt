@@ -1,6 +1,6 @@
 // The planner's answers, and how each is written.
 ghost use Rattle.std.specs.Prelude.{Some, flat_map};
-ghost use Rattle.session.specs.Texts.{hop_text, byte_text, tally_lines, answer_text};
+ghost use Rattle.session.specs.Texts.{hop_text, byte_text, tally_lines, answer_text, out_lines};
 
 use lanes::strip::Strip;
 use layouts::turn::Turn;
@@ -34,8 +34,10 @@ pub enum Answer {
     Load(u32),
     /// A count of items.
     Count(usize),
-    /// The lanes of so many links, so many to each, are to be stepped in turn until none will step.
-    Drain(u16, u16),
+    /// How many hops are ahead.
+    Ahead(usize),
+    /// By a sweep or a drain so many steps went, and so many items came out.
+    CameOut(usize, usize),
     /// A plan was loaded: how many records it has.
     Loaded(usize),
     /// The bytes of a plan, at the front of a table of as many as a plan can have, and their count.
@@ -139,7 +141,8 @@ impl fmt::Display for Answer {
             }
             Answer::Load(load) => write!(f, "ok {load}"),
             Answer::Count(count) => write!(f, "ok {count}"),
-            Answer::Drain(links, lanes) => write!(f, "drain {links} {lanes}"),
+            Answer::Ahead(hops) => write!(f, "ok {hops}"),
+            Answer::CameOut(steps, items) => write!(f, "ok {steps} {items}"),
             Answer::Loaded(records) => write!(f, "ok {records}"),
             Answer::Written(plan, count) => {
                 write!(f, "ok {count} {}", ByteList(&plan[..(*count).min(3530)]))
@@ -154,5 +157,26 @@ impl fmt::Display for Answer {
             Answer::Picture => write!(f, "picture"),
             Answer::Say => write!(f, "say"),
         }
+    }
+}
+
+/// What came out by a sweep or a drain: the streams, and beside each its item.
+#[derive(Clone, Copy)]
+pub struct OutList<'a> {
+    /// The number of each stream.
+    pub streams: &'a [u16],
+    /// The items.
+    pub items: &'a [Strip],
+}
+
+/// A line `out STREAM FRAGMENT BAND ROW` for each item, as the answer to a step tells it, ended by a line feed.
+impl fmt::Display for OutList<'_> {
+    ghost output = { λ list. Some (out_lines list.streams.now list.items.now) };
+
+    fn fmt<W: fmt::Write>(&self, f: &mut fmt::Formatter<W>) -> fmt::Result {
+        for (stream, item) in self.streams.iter().zip(self.items) {
+            write!(f, "{}\n", Answer::Out(*stream, *item))?;
+        }
+        Ok(())
     }
 }

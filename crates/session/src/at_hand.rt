@@ -8,6 +8,7 @@ ghost use Rattle.grid.specs.declared.make.MakeError.TheVariants.{OutOfMemory};
 ghost use Rattle.grid.specs.Blank.{NotMade};
 ghost use Rattle.plan.specs.Loads.{sizes_of};
 ghost use Rattle.plan.specs.Verdicts.{sizes_in};
+ghost use Rattle.session.specs.Entries.{entry_count};
 ghost use Rattle.session.specs.Measures.{scale_of};
 ghost use Rattle.session.specs.Heads.{IsOfMesh, IsAllowed};
 
@@ -32,15 +33,20 @@ use search::scratch::{marks_needed, values_needed};
 use search::total::Total;
 use std::alloc::Global;
 
-/// A grid with a slot for each item that its lanes can contain, the scratch of seeks, and the head of its plans.
+/// A grid with a slot for each item that its lanes can contain, two tables for what comes out by a sweep or a drain, the scratch of seeks, and
+/// the head of its plans.
 #[derive(Drop)]
 pub(crate) struct GridAtHand {
     pub(crate) grid: Grid<Mesh>,
     pub(crate) slots: Vec<Strip>,
+    pub(crate) streams: Vec<u16>,
+    pub(crate) items: Vec<Strip>,
     values: Vec<Either<u32, (u16, u16)>>,
     marks: Vec<u16>,
     pub(crate) head: Head,
     ghost all_slots: { length (vec_items slots) ≡ slot_count grid.tables.lanes.size },
+    ghost all_streams: { length (vec_items streams) ≡ entry_count grid.tables.lanes.size },
+    ghost all_items: { length (vec_items items) ≡ entry_count grid.tables.lanes.size },
     ghost all_values: { length (vec_items values) ≡ values_needed grid.tables.lanes.size.links grid.tables.lanes.size.lanes },
     ghost all_marks: { length (vec_items marks) ≡ marks_needed grid.tables.lanes.size.links grid.tables.lanes.size.lanes },
     ghost allowed: { IsAllowed head },
@@ -70,15 +76,17 @@ fn measure_of(name: MeasureName) -> Choice<Total, Peak>
 
 impl GridAtHand {
     ghost use Rattle.session.specs.Hands.{grid_of};
-    ghost use Rattle.session.specs.Sessions.{NewGrid, Opens, Searches, Closes, Sends, Steps, LoadsPlan, RehearsesStreams, fields, route, link_load, count, items, lanes, plan_of};
+    ghost use Rattle.session.specs.Sessions.{NewGrid, Opens, Searches, Closes, Sends, Steps, Sweeps, Drains, LoadsPlan, RehearsesStreams, fields, route, link_load, count, items, ahead, plan_of};
 
-    // A blank grid of the sizes in its head, with its slots and scratch.
+    // A blank grid of the sizes in its head, with all that it is lent and its scratch.
     pub(crate) fn blank(heap: Global, mesh: Mesh, head: Head) -> Result<GridAtHand, MakeError>
         requires { IsOfMesh head }
         ensures { MatchResult result (λ g. NewGrid (meaning_of mesh) head (grid_of g)) (λ e. NotMade head.lanes head.depth head.capacity e) }
     {
         let grid = Grid::blank(heap, mesh, head.lanes, head.depth, head.capacity)?;
         let size = grid.size();
+        // a drain brings out no more items than there are slots, and is to have an entry for each lane besides
+        let entries = size.slots() + size.lane_count();
         let strip = Strip {
             fragment: 0,
             band: 0,
@@ -87,6 +95,8 @@ impl GridAtHand {
         Ok(GridAtHand {
             grid,
             slots: filled(heap, strip, size.slots())?,
+            streams: filled(heap, 0, entries)?,
+            items: filled(heap, strip, entries)?,
             values: filled(
                 heap,
                 Either::First(0),
@@ -162,6 +172,38 @@ impl GridAtHand {
         }
     }
 
+    // Sweeps the grid.
+    pub(crate) fn sweep(&mut self) -> Answer
+        ensures { Sweeps (grid_of self.old) (Ok result) (grid_of self.new) }
+    {
+        // all slots are lent, and an entry for each lane
+        let swept = self
+            .grid
+            .sweep(
+                self.slots.as_mut_slice(),
+                self.streams.as_mut_slice(),
+                self.items.as_mut_slice(),
+            )
+            .unwrap();
+        Answer::CameOut(swept.steps, swept.items)
+    }
+
+    // Drains the grid.
+    pub(crate) fn drain(&mut self) -> Answer
+        ensures { Drains (grid_of self.old) (Ok result) (grid_of self.new) }
+    {
+        // all slots are lent, and an entry for each item and for each lane
+        let drained = self
+            .grid
+            .drain(
+                self.slots.as_mut_slice(),
+                self.streams.as_mut_slice(),
+                self.items.as_mut_slice(),
+            )
+            .unwrap();
+        Answer::CameOut(drained.steps, drained.items)
+    }
+
     // Rehearses the open streams.
     pub(crate) fn rehearse(&mut self, strips: u16, beat: BeatName) -> Result<Answer, Failure>
         ensures { RehearsesStreams strips (grid_of self.old) result (grid_of self.new) }
@@ -170,7 +212,14 @@ impl GridAtHand {
             BeatName::Even => Beat::Even,
             BeatName::Uneven => Beat::Uneven,
         };
-        let rehearsal = rehearse(&mut self.grid, self.slots.as_mut_slice(), strips, beat)?;
+        let rehearsal = rehearse(
+            &mut self.grid,
+            self.slots.as_mut_slice(),
+            self.streams.as_mut_slice(),
+            self.items.as_mut_slice(),
+            strips,
+            beat,
+        )?;
         Ok(Answer::Rehearsed(rehearsal))
     }
 
@@ -211,12 +260,11 @@ impl GridAtHand {
         Answer::Count(self.grid.items())
     }
 
-    // The lanes to step in turn.
-    pub(crate) fn lanes(&self) -> Answer
-        ensures { Ok result ≡ lanes (grid_of self.now) }
+    // How many hops are ahead.
+    pub(crate) fn ahead(&self) -> Answer
+        ensures { Ok result ≡ ahead (grid_of self.now) }
     {
-        let size = self.grid.size();
-        Answer::Drain(size.links(), size.lanes())
+        Answer::Ahead(self.grid.hops_ahead())
     }
 
     // The plan of the open streams.

@@ -1,14 +1,14 @@
 // What a script has at hand, and the answers to its lines.
-ghost use Rattle.std.specs.Prelude.{◌≡◌, Some, None, MatchOption, MatchResult};
+ghost use Rattle.std.specs.Prelude.{◌≡◌, take, Some, None, MatchOption, MatchResult};
 ghost use Rattle.std.specs.Option.{ok_or};
 ghost use Rattle.layouts.specs.Mesh.{meaning_of};
 ghost use Rattle.routes.specs.Checks.{judgement, verdict};
 ghost use Rattle.script.specs.Commands.{instruction_of};
 ghost use Rattle.script.specs.declared.mistake.Mistake.TheVariants.{NoMesh, NoGrid};
 ghost use Rattle.session.specs.Hands.{hand_of};
-ghost use Rattle.session.specs.Sessions.{unloaded, ChecksPlan, Shows, Answers, Replies};
+ghost use Rattle.session.specs.Sessions.{unloaded, ChecksPlan, Shows, ShowsOut, Answers, Replies};
 
-use crate::answer::Answer;
+use crate::answer::{Answer, OutList};
 use crate::at_hand::GridAtHand;
 use crate::failure::{Failure, LineFailure};
 use crate::head::head_of;
@@ -49,6 +49,13 @@ fn checked(heap: Global, plan: &[u8]) -> Result<Answer, Failure>
         Ok(Err(fault)) => Err(fault.into()),
         Err(AllocError) => Err(Mistake::OutOfMemory.into()),
     }
+}
+
+// The first entries of a table: so many, or all where there are fewer.
+fn front<T>(table: &[T], count: usize) -> &[T]
+    ensures { result.now ≡ take count table.now }
+{
+    &table[..count.min(table.len())]
 }
 
 /// A grid on a mesh, with the width and the height of the mesh.
@@ -103,6 +110,19 @@ impl Session {
             grid: &at_hand.grid,
             width: at_hand.head.width,
             height: at_hand.head.height,
+        })
+    }
+
+    /// What came out by the latest sweep or drain of the grid at hand, where its answer told so many items: the first entries of both
+    /// tables, so many, or all where there are fewer. None where no grid was made.
+    pub fn came_out(&self, count: usize) -> Option<OutList<'_>>
+        ensures { MatchOption result ((hand_of self.now).grid ≡ None)
+            (λ out. ShowsOut count out.streams.now out.items.now (hand_of self.now)) }
+    {
+        let at_hand = self.grid.as_ref()?;
+        Some(OutList {
+            streams: front(&at_hand.streams, count),
+            items: front(&at_hand.items, count),
         })
     }
 
@@ -173,7 +193,15 @@ impl Session {
             Command::LinkLoad(link) => self.grid()?.link_load(link),
             Command::Count(hop) => self.grid()?.count(hop),
             Command::Items => Ok(self.grid()?.items()),
-            Command::Drain => Ok(self.grid()?.lanes()),
+            Command::Ahead => Ok(self.grid()?.ahead()),
+            Command::Sweep => match &mut self.grid {
+                Some(grid) => Ok(grid.sweep()),
+                None => Err(Mistake::NoGrid.into()),
+            },
+            Command::Drain => match &mut self.grid {
+                Some(grid) => Ok(grid.drain()),
+                None => Err(Mistake::NoGrid.into()),
+            },
             Command::Load(plan) => match &mut self.grid {
                 Some(grid) => grid.load(plan.as_slice()),
                 None => Err(Mistake::NoGrid.into()),

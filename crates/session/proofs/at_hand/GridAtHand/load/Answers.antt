@@ -1,6 +1,4 @@
-use Rattle.std.proofs.Common.{sym, ap, ◌∙◌}
-use Rattle.lanes.specs.Sizes.{slot_count}
-use Rattle.search.specs.Finds.{values_needed, marks_needed}
+use Rattle.std.proofs.Common.{ap}
 use Rattle.plan.proofs.Loading.{rest_stays}
 use Rattle.session.proofs.at_hand.GridAtHand.load.Goals as goal
 
@@ -9,10 +7,13 @@ invariant_of-self c =
     let hand = c.args.self.now in
     let kept = rest_stays _ _ _ _ c.load.ensures.made.1 in
     let size = ap (λ lanes. lanes.size) kept.0 in
+    let capacity = kept.1 in
     record {
-      all_slots = hand.all_slots ∙ ap slot_count (sym size);
-      all_values = hand.all_values ∙ ap (λ size. values_needed size.links size.lanes) (sym size);
-      all_marks = hand.all_marks ∙ ap (λ size. marks_needed size.links size.lanes) (sym size);
+      all_slots = cc;
+      all_streams = cc;
+      all_items = cc;
+      all_values = cc;
+      all_marks = cc;
       allowed = hand.allowed;
-      fitting = rw (size, kept.1) hand.fitting;
+      fitting = cc;
     }

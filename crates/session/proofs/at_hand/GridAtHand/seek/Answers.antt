@@ -14,7 +14,6 @@ returns c =
       Ok c.in_ok-seek.field-0,
       seeks_by_name (meaning_of hand.grid.layout) hand.grid.tables _ c.args.stream c.args.request c.args.measure (Ok c.in_ok-seek.field-0)
           (rw (c.measure_of.ensures, values, marks) at sought.made),
-      (refl, ap meaning_of sought.layout),
-      refl,
+      record { out = record { made = record { head = refl; layout = ap meaning_of sought.layout }; streams = refl; items = refl }; slots = refl },
       c.route.ensures,
     )

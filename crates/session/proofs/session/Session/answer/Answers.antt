@@ -1,6 +1,6 @@
-use Rattle.std.proofs.Common.{vec_items}
+use Rattle.std.proofs.Common.{vec_items, Ok}
 use Rattle.session.specs.Hands.{hand_of}
-use Rattle.session.specs.Sessions.{Opens, Searches, Closes, Sends, Steps, LoadsPlan, RehearsesStreams}
+use Rattle.session.specs.Sessions.{Opens, Searches, Closes, Sends, Steps, Sweeps, Drains, LoadsPlan, RehearsesStreams}
 use Rattle.session.proofs.OnGrids.{on_grid, grid_made}
 use Rattle.session.proofs.session.Session.answer.Goals as goal
 
@@ -36,11 +36,19 @@ returns-in-Some-grid-4 c =
 
 pub returns-in-Some-grid-5 : goal.returns-in-Some-grid-5
 returns-in-Some-grid-5 c =
-    rw c.in-Load.is
-    (on_grid (LoadsPlan (vec_items c.in-Load.plan)) c.args.self.now c.in-Some-grid-5.grid c.load.new.self c.load.result c.in-Some-grid-5.is
-    (rw c.as_slice-in-Some-grid-5.ensures.value at c.load.ensures))
+    rw c.in-Sweep.is (on_grid Sweeps c.args.self.now c.in-Some-grid-5.grid c.sweep.new.self (Ok c.sweep.result) c.in-Some-grid-5.is c.sweep.ensures)
 
 pub returns-in-Some-grid-6 : goal.returns-in-Some-grid-6
 returns-in-Some-grid-6 c =
+    rw c.in-Drain.is (on_grid Drains c.args.self.now c.in-Some-grid-6.grid c.drain.new.self (Ok c.drain.result) c.in-Some-grid-6.is c.drain.ensures)
+
+pub returns-in-Some-grid-7 : goal.returns-in-Some-grid-7
+returns-in-Some-grid-7 c =
+    rw c.in-Load.is
+    (on_grid (LoadsPlan (vec_items c.in-Load.plan)) c.args.self.now c.in-Some-grid-7.grid c.load.new.self c.load.result c.in-Some-grid-7.is
+    (rw c.as_slice-in-Some-grid-7.ensures.value at c.load.ensures))
+
+pub returns-in-Some-grid-8 : goal.returns-in-Some-grid-8
+returns-in-Some-grid-8 c =
     rw c.in-Rehearse.is
-    (on_grid (RehearsesStreams c.in-Rehearse.strips) c.args.self.now c.in-Some-grid-6.grid c.rehearse.new.self c.rehearse.result c.in-Some-grid-6.is c.rehearse.ensures)
+    (on_grid (RehearsesStreams c.in-Rehearse.strips) c.args.self.now c.in-Some-grid-8.grid c.rehearse.new.self c.rehearse.result c.in-Some-grid-8.is c.rehearse.ensures)

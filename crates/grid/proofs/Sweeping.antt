@@ -135,8 +135,8 @@ module _ {T : Type 0} (w : Workspace T) (links : w.kind.links ≡ w.tables.lanes
         items = all.items;
         few = few;
         most = most;
-        progress = λ some. omega (arith, all.steps, sweep_goes S safe g reached kept w.tables.lanes.size.deep.0 some);
-        hops = omega (arith, ahead_after, all.steps, sweep_hops S safe g reached kept);
+        progress = λ some. omega (arith, all.steps, sweep_goes S safe.never_locks g reached kept w.tables.lanes.size.deep.0 some);
+        hops = omega (arith, ahead_after, all.steps, sweep_hops S safe.never_locks g reached kept);
       }
 
 -- ---- a sweep after other calls

@@ -11,7 +11,7 @@ use Rattle.model.proofs.Kept.{Kept}
 use Rattle.model.proofs.Does.{Does, does}
 use Rattle.model.proofs.Keeping.{kept_next}
 use Rattle.model.proofs.Counts.{hops_next, items_next}
-use Rattle.model.specs.Safe.{Reached, Safe}
+use Rattle.model.specs.Safe.{Reached, NeverLocks}
 use Rattle.model.specs.Waiting.{waiting}
 use Rattle.model.specs.Law.{NoLaneWillStep, KeepsFrom}
 use Rattle.model.proofs.StreamItems.{of_stream-append}
@@ -21,14 +21,14 @@ use Rattle.model.proofs.Closes.{none_waits, none_when_closes}
 use Rattle.model.proofs.Safe.{reached_next}
 
 -- From a grid on whose streams are reached and whose items are placed.
-module _ {T : Type 0} (S : Setting) (safe : Safe S) (g : Grid T) (reached : ∥ Reached S.judge g.streams ∥₁) (kept : Kept S g) where
+module _ {T : Type 0} (S : Setting) (never_locks : NeverLocks S) (g : Grid T) (reached : ∥ Reached S.judge g.streams ∥₁) (kept : Kept S g) where
   pub reached_and_kept : (past : History T) → ∥ Reached S.judge (after_from S g past).streams ∥₁ × Kept S (after_from S g past)
   reached_and_kept start = (reached, kept)
   reached_and_kept (past ▸ c) =
       let before = reached_and_kept past in
       let did = does S (after_from S g past) before.1 c in
       let reached = reached_next S (after_from S g past) before.0 did in
-      (reached, kept_next S (after_from S g past) before.1 did (proper_of S safe _ reached))
+      (reached, kept_next S (after_from S g past) before.1 did (proper_of S never_locks _ reached))
 
   kept_after : (past : History T) → Kept S (after_from S g past)
   kept_after past = (reached_and_kept past).1
@@ -65,9 +65,9 @@ module _ {T : Type 0} (S : Setting) (safe : Safe S) (g : Grid T) (reached : ∥ 
         items = items_from_on past;
         hops = hops_from_on past;
         in_order = λ n. order_from_on n past;
-        rests = rests_without_items S deep safe (after_from S g past) now.0 now.1;
-        some_steps = some_lane S deep safe (after_from S g past) now.0 now.1;
-        empty = none_counted S deep safe (after_from S g past) now.0 now.1;
+        rests = rests_without_items S deep never_locks (after_from S g past) now.0 now.1;
+        some_steps = some_lane S deep never_locks (after_from S g past) now.0 now.1;
+        empty = none_counted S deep never_locks (after_from S g past) now.0 now.1;
         none_left = λ n is_open. Iff.trans (none_waits S (after_from S g past) now.1 n) (none_when_closes S (after_from S g past) now.1 n is_open);
       }
 

@@ -19,10 +19,10 @@ use Rattle.model.proofs.GridSums.{grid_sum_zero, grid_sum_at}
 use Rattle.model.proofs.Kept.{Kept, Front, all_placed, front_proper}
 use Rattle.model.proofs.Does.{Does, refused, passed, left, does}
 use Rattle.model.proofs.Counts.{left_sum}
-use Rattle.model.specs.Safe.{Reached, Safe}
+use Rattle.model.specs.Safe.{Reached, NeverLocks}
 use Rattle.model.proofs.Progress.{rests_empty}
 
-module _ {T : Type 0} (S : Setting) (deep : 1 ≤ S.depth) (safe : Safe S)
+module _ {T : Type 0} (S : Setting) (deep : 1 ≤ S.depth) (never_locks : NeverLocks S)
     (g : Grid T) (reached : ∥ Reached S.judge g.streams ∥₁) (kept : Kept S g) where
   -- A sum to which each front item adds.
   module _ (cost : ℕ → (ℕ × T) → ℕ)
@@ -35,7 +35,7 @@ module _ {T : Type 0} (S : Setting) (deep : 1 ≤ S.depth) (safe : Safe S)
     rests_at_zero : (grid_sum S cost g.contents ≡ 0) ↔ NoLaneWillStep S g
     rests_at_zero =
         ∥∥₁_elim reached (hlevel props) (λ r.
-        let ranked = safe.ranked g.streams r in (
+        let ranked = never_locks.ranked g.streams r in (
           (λ none link lane goes. absurd (omega (arith, none, step_adds (does S g kept (steps link lane)) goes))),
           (λ rests. grid_sum_zero S cost g.contents (λ link lane on_grid.
               ap (queue_sum (cost link)) (rests_empty S deep g kept ranked.0 ranked.1 rests link lane on_grid))),

@@ -8,7 +8,7 @@ use Rattle.std.proofs.lemmas.Bool.Decides.{nat_tests}
 use Rattle.routes.specs.declared.hop.Hop.{Hop}
 use Rattle.routes.specs.Routes.{OpenStream, uses}
 use Rattle.model.specs.Grid.{Setting, route_of, hops_from}
-use Rattle.model.specs.Safe.{OnGrid, Apart, Proper, Reached, Safe}
+use Rattle.model.specs.Safe.{OnGrid, Apart, Proper, Reached, NeverLocks}
 
 pub proper_none : (S : Setting) → Proper S []
 proper_none S = record { on_grid = tt; apart = tt }
@@ -54,5 +54,5 @@ pub proper_prop : (S : Setting) (hops : List Hop) → IsProp (Proper S hops)
 proper_prop S hops = hlevel (props, apart_prop hops, AllByRecursion-prop (OnGrid S) (λ h. hlevel props) hops)
 
 -- The routes of reached streams are proper.
-pub proper_of : (S : Setting) → Safe S → (streams : ℕ → Option OpenStream) → ∥ Reached S.judge streams ∥₁ → (n : ℕ) → Proper S (route_of (streams n))
-proper_of S safe streams reached n = ∥∥₁_elim reached (proper_prop S (route_of (streams n))) (λ r. safe.proper streams r n)
+pub proper_of : (S : Setting) → NeverLocks S → (streams : ℕ → Option OpenStream) → ∥ Reached S.judge streams ∥₁ → (n : ℕ) → Proper S (route_of (streams n))
+proper_of S never_locks streams reached n = ∥∥₁_elim reached (proper_prop S (route_of (streams n))) (λ r. never_locks.proper streams r n)

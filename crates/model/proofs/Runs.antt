@@ -1,4 +1,4 @@
--- The law of every run, on a grid of any kind whose open streams are safe.
+-- The law of every run, on a grid of any kind that never locks.
 use Rattle.std.proofs.Common.{◌≡◌, ℕ, ◌+◌, ◌≤◌, ◌↔◌, List, [], ◌++◌, length, is_some, Some, None, sym, refl, ap, ◌∙◌, arith}
 use mathlib.Core.Logic.Iff
 use Rattle.std.proofs.lemmas.List.{append-nil, append_cancel_left}
@@ -14,7 +14,7 @@ use Rattle.model.proofs.Kept.{Kept}
 use Rattle.model.proofs.Does.{Does, does}
 use Rattle.model.proofs.Keeping.{kept_blank}
 use Rattle.model.proofs.Order.{order_next}
-use Rattle.model.specs.Safe.{Reached, none_open, Safe}
+use Rattle.model.specs.Safe.{Reached, none_open, NeverLocks}
 use Rattle.model.proofs.Onward.{reached_and_kept, hops_from_on, items_from_on, hops_then}
 use Rattle.model.proofs.Rests.{rests_without_items, rests_without_hops}
 use Rattle.model.proofs.Closes.{none_waits, none_when_closes}
@@ -27,9 +27,9 @@ whole_when_no_rest whole first rest split = (
 )
 
 -- From the blank grid on.
-module _ {T : Type 0} (S : Setting) (deep : 1 ≤ S.depth) (safe : Safe S) where
+module _ {T : Type 0} (S : Setting) (deep : 1 ≤ S.depth) (never_locks : NeverLocks S) where
   reached_after : (past : History T) → ∥ Reached S.judge (after S past).streams ∥₁ × Kept S (after S past)
-  reached_after = reached_and_kept S safe blank (∣ none_open ∣₁) (kept_blank S)
+  reached_after = reached_and_kept S never_locks blank (∣ none_open ∣₁) (kept_blank S)
 
   kept_after : (past : History T) → Kept S (after S past)
   kept_after past = (reached_after past).1
@@ -41,10 +41,10 @@ module _ {T : Type 0} (S : Setting) (deep : 1 ≤ S.depth) (safe : Safe S) where
   blank_sum cost = grid_sum_zero S cost (λ _ _. []) (λ _ _ _. refl)
 
   hops_after : (past : History T) → hops_ahead S (after S past) + steps_gone S past ≡ hops_let_in S past
-  hops_after past = omega (arith, hops_from_on S safe blank (∣ none_open ∣₁) (kept_blank S) past, blank_sum (ahead (λ _. None)))
+  hops_after past = omega (arith, hops_from_on S never_locks blank (∣ none_open ∣₁) (kept_blank S) past, blank_sum (ahead (λ _. None)))
 
   items_after : (past : History T) → item_count S (after S past) + length (handed_out S past) ≡ length (let_in S past)
-  items_after past = omega (arith, items_from_on S safe blank (∣ none_open ∣₁) (kept_blank S) past, blank_sum one)
+  items_after past = omega (arith, items_from_on S never_locks blank (∣ none_open ∣₁) (kept_blank S) past, blank_sum one)
 
   order_after : (n : ℕ) (past : History T) → let_in_since S n past ≡ handed_out_since S n past ++ waiting n (after S past)
   order_after n start = refl
@@ -66,11 +66,11 @@ module _ {T : Type 0} (S : Setting) (deep : 1 ≤ S.depth) (safe : Safe S) where
   keeps_pace past more =
       let end = then_steps past more in
       let hops : hops_ahead S (after S end) + steps_gone S end ≡ hops_ahead S (after S past) + steps_gone S past =
-      hops_after end ∙ (hops_then S safe blank (∣ none_open ∣₁) (kept_blank S) past more ∙ sym (hops_after past)) in
+      hops_after end ∙ (hops_then S never_locks blank (∣ none_open ∣₁) (kept_blank S) past more ∙ sym (hops_after past)) in
       let now = reached_after end in
       record {
         at_most = omega arith;
-        exactly = Iff.trans (omega arith) (rests_without_hops S deep safe (after S end) now.0 now.1);
+        exactly = Iff.trans (omega arith) (rests_without_hops S deep never_locks (after S end) now.0 now.1);
       }
 
   pub keeps : (past : History T) → Keeps S past
@@ -78,7 +78,7 @@ module _ {T : Type 0} (S : Setting) (deep : 1 ≤ S.depth) (safe : Safe S) where
       let now = reached_after past in
       record {
         items = items_after past;
-        all_out = Iff.trans (omega (arith, items_after past)) (rests_without_items S deep safe (after S past) now.0 now.1);
+        all_out = Iff.trans (omega (arith, items_after past)) (rests_without_items S deep never_locks (after S past) now.0 now.1);
         in_order = keeps_order past;
         hops = hops_after past;
         pace = keeps_pace past;

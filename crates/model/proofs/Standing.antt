@@ -13,7 +13,7 @@ use Rattle.routes.specs.Loads.{stream_count}
 use Rattle.routes.specs.Routes.{OpenStream, hop_on, uses}
 use Rattle.model.specs.Grid.{Setting, Queue, Grid, enough_slots, route_of, hops_from}
 use Rattle.model.specs.Calls.{Call, outcome}
-use Rattle.model.specs.Safe.{Apart, Proper, Reached, none_open, after_opening, after_closing, Safe}
+use Rattle.model.specs.Safe.{Apart, Proper, Reached, none_open, after_opening, after_closing, NeverLocks}
 use Rattle.model.specs.Outlines.{alike, without_items}
 use Rattle.model.specs.Standing.{takes, AllStand}
 use Rattle.model.proofs.Puts.{assign_each}
@@ -85,19 +85,19 @@ module _ {T : Type 0} (S : Setting) (g : Grid T) where
       (record { slots = enough; rest = on.0; on = on.1 }, queue_placed routes enough link lane queue parts.1)
 
   -- A grid of reached streams whose items stand is kept.
-  module _ (safe : Safe S) (enough : enough_slots S ≡ true) (stand : AllStand g) where
+  module _ (never_locks : NeverLocks S) (enough : enough_slots S ≡ true) (stand : AllStand g) where
     pub stands_kept : ∥ Reached S.judge g.streams ∥₁ → Kept S g
     stands_kept reached = record {
       low = ∥∥₁_elim reached (hlevel props) (reached_low S.judge g.streams);
-      routes = proper_of S safe g.streams reached;
-      placed = λ link lane. queue_placed (proper_of S safe g.streams reached) enough link lane (g.contents link lane) (stand link lane);
+      routes = proper_of S never_locks g.streams reached;
+      placed = λ link lane. queue_placed (proper_of S never_locks g.streams reached) enough link lane (g.contents link lane) (stand link lane);
     }
 
     -- so its items stand after every call
     pub stand_next : ∥ Reached S.judge g.streams ∥₁ → (c : Call T) → AllStand (outcome S g c).grid
     stand_next reached c =
         let did = does S g (stands_kept reached) c in
-        kept_stands S (outcome S g c).grid (kept_next S g (stands_kept reached) did (proper_of S safe _ (reached_next S g reached did)))
+        kept_stands S (outcome S g c).grid (kept_next S g (stands_kept reached) did (proper_of S never_locks _ (reached_next S g reached did)))
 
 -- Items stand on a grid exactly as they do on its outline.
 module _ {T : Type 0} (g : Grid T) where

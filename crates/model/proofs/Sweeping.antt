@@ -8,7 +8,7 @@ use Rattle.model.specs.Sums.{item_count, hops_ahead}
 use Rattle.model.specs.Calls.{Outcome, steps, outcome}
 use Rattle.model.specs.Runs.{History, start, ◌▸◌, after_from, let_in_from, steps_gone_from, then_steps, is_declined, going}
 use Rattle.model.specs.Law.{WillStep, NoLaneWillStep}
-use Rattle.model.specs.Safe.{Reached, Safe}
+use Rattle.model.specs.Safe.{Reached, NeverLocks}
 use Rattle.model.specs.Sweeps.{all_lanes, sweep_of, sweeps_of, KeepsBound}
 use Rattle.model.proofs.AllLanes.{no_lane}
 use Rattle.model.proofs.Kept.{Kept}
@@ -32,7 +32,7 @@ sweeps_let_in S g (suc count) =
     ∙ ap (λ l. l ++ let_in_from S (after_from S g (sweeps_of S count)) (sweep_of S)) (sweeps_let_in S g count)
     ∙ sweep_let_in S (after_from S g (sweeps_of S count))
 
-module _ {T : Type 0} (S : Setting) (safe : Safe S) where
+module _ {T : Type 0} (S : Setting) (never_locks : NeverLocks S) where
   -- ---- steps of some lanes
 
   module _ (g : Grid T) (reached : ∥ Reached S.judge g.streams ∥₁) (kept : Kept S g) where
@@ -76,16 +76,16 @@ module _ {T : Type 0} (S : Setting) (safe : Safe S) where
           ⊎_elim
           (λ (goes : 0 < steps_gone_from S g (sweep_of S)). goes)
           (λ (none : steps_gone_from S g (sweep_of S) ≤ 0).
-          absurd (omega (arith, some, (rests_without_items S deep safe g reached kept).1 (none_steps (omega arith)))))
+          absurd (omega (arith, some, (rests_without_items S deep never_locks g reached kept).1 (none_steps (omega arith)))))
           (cases_lt 0 (steps_gone_from S g (sweep_of S)))
 
       -- no item is on the grid exactly if no hop is ahead
       none_ahead : (hops_ahead S g ≡ 0) ↔ (item_count S g ≡ 0)
-      none_ahead = Iff.trans (rests_without_hops S deep safe g reached kept) (Iff.symm (rests_without_items S deep safe g reached kept))
+      none_ahead = Iff.trans (rests_without_hops S deep never_locks g reached kept) (Iff.symm (rests_without_items S deep never_locks g reached kept))
 
     -- the hops ahead fall by the steps that go
     pub sweep_hops : hops_ahead S (after_from S g (sweep_of S)) + steps_gone_from S g (sweep_of S) ≡ hops_ahead S g
-    sweep_hops = omega (arith, hops_from_on S safe g reached kept (sweep_of S), hops_then S safe g reached kept start (all_lanes S.links S.lanes))
+    sweep_hops = omega (arith, hops_from_on S never_locks g reached kept (sweep_of S), hops_then S never_locks g reached kept start (all_lanes S.links S.lanes))
 
   -- ---- several sweeps
 
@@ -106,7 +106,7 @@ module _ {T : Type 0} (S : Setting) (safe : Safe S) where
     sweeps_hops : (count : ℕ) → hops_ahead S (grid_after count) + gone_after count ≡ hops_ahead S g
     sweeps_hops zero = omega arith
     sweeps_hops (suc count) =
-        let now = reached_and_kept S safe g reached kept (sweeps_of S count) in
+        let now = reached_and_kept S never_locks g reached kept (sweeps_of S count) in
         omega (
           arith,
           sweeps_hops count,
@@ -118,14 +118,14 @@ module _ {T : Type 0} (S : Setting) (safe : Safe S) where
     module _ (deep : 1 ≤ S.depth) where
       none_ahead_after : (count : ℕ) → (hops_ahead S (grid_after count) ≡ 0) ↔ (item_count S (grid_after count) ≡ 0)
       none_ahead_after count =
-          let now = reached_and_kept S safe g reached kept (sweeps_of S count) in
+          let now = reached_and_kept S never_locks g reached kept (sweeps_of S count) in
           none_ahead (grid_after count) now.0 now.1 deep
 
       -- each sweep had a step that went, until no item was on the grid
       none_left_or_gone : (count : ℕ) → (item_count S (grid_after count) ≡ 0) ⊎ (count ≤ gone_after count)
       none_left_or_gone zero = inr (omega arith)
       none_left_or_gone (suc count) =
-          let now = reached_and_kept S safe g reached kept (sweeps_of S count) in
+          let now = reached_and_kept S never_locks g reached kept (sweeps_of S count) in
           ⊎_elim
           (λ (some : 0 < item_count S (grid_after count)).
           ⊎_elim

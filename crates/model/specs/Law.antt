@@ -1,10 +1,12 @@
 -- The law of every run.
 use Rattle.std.specs.Prelude.{◌≡◌, ℕ, ◌+◌, ◌<◌, ◌≤◌, true, false, ◌↔◌, List, [], ◌++◌, length, is_some, Some}
+use Rattle.layouts.specs.Layout.{Meaning, Lawful}
 use Rattle.routes.specs.Routes.{OpenStream}
 use Rattle.model.specs.Grid.{Setting, Grid}
 use Rattle.model.specs.Sums.{of_stream, item_count, hops_ahead}
 use Rattle.model.specs.Calls.{Call, closes, steps, outcome}
-use Rattle.model.specs.Safe.{Safe}
+use Rattle.model.specs.Kinds.{on_layout}
+use Rattle.model.specs.Safe.{NeverLocks}
 use Rattle.model.specs.Waiting.{waiting}
 use Rattle.model.specs.Runs.{History, after_from, let_in_from, handed_out_from, steps_gone_from, hops_let_in_from, after, is_declined, let_in, handed_out, steps_gone, hops_let_in, let_in_since, handed_out_since, then_steps}
 
@@ -65,6 +67,13 @@ pub record Keeps {T : Type 0} (S : Setting) (past : History T) : Type 0 where
   pub hops : hops_ahead S (after S past) + steps_gone S past ≡ hops_let_in S past
   pub pace : (more : List (ℕ × ℕ)) → KeepsPace S past more
 
--- The law: on every kind of grid whose open streams are safe, with any count of slots and any depth but 0, after every list of calls.
+-- The law: on every kind of grid that never locks, with any count of slots and any depth but 0, after every list of calls.
 abbrev pub EveryRun : Type 0 → Type 0
-EveryRun T = (S : Setting) → 1 ≤ S.depth → Safe S → (past : History T) → Keeps S past
+EveryRun T = (S : Setting) → 1 ≤ S.depth → NeverLocks S → (past : History T) → Keeps S past
+
+-- The law by rules: on every lawful layout, with any counts of lanes and slots, any capacity and any depth but 0, after every list
+-- of calls.
+abbrev pub EveryRunByRules : Type 0 → Type 0
+EveryRunByRules T =
+    (m : Meaning) → Lawful m → (lanes depth capacity slots : ℕ) → 1 ≤ depth
+    → (past : History T) → Keeps (on_layout m lanes depth capacity slots) past

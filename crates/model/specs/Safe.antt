@@ -40,10 +40,14 @@ pub record Takes (S : Setting) (hops : List Hop) : Type 0 where
   pub count : count_fits hops ≡ true
   pub there : list_all (is_on_grid S.links S.lanes) hops ≡ true
 
--- A grid is safe if what its judgement lets in is such a route, and if, whatever open streams openings and closings lead to, each
--- route is proper and some rank of the hops rises along all of them.
-pub record Safe (S : Setting) : Type 0 where
-  pub takes : (streams : Streams) (q : Request) (hops : List Hop) → S.judge streams q hops ≡ None → Takes S hops
+-- A grid never locks if, whatever open streams openings and closings lead to, each route is proper and some rank of the hops
+-- rises along all of them.
+pub record NeverLocks (S : Setting) : Type 0 where
   pub proper : (streams : Streams) → Reached S.judge streams → (n : ℕ) → Proper S (route_of (streams n))
   pub ranked : (streams : Streams) → Reached S.judge streams
       → (rank : Hop → ℕ) × ((n : ℕ) → Rises rank (route_of (streams n)))
+
+-- A grid is safe if what its judgement lets in is a route that is taken, and if it never locks.
+pub record Safe (S : Setting) : Type 0 where
+  pub takes : (streams : Streams) (q : Request) (hops : List Hop) → S.judge streams q hops ≡ None → Takes S hops
+  pub never_locks : NeverLocks S

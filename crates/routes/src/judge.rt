@@ -23,8 +23,8 @@ pub struct Limits<'a> {
     pub lanes: u16,
     /// How much demand each link can bear.
     pub capacity: u16,
-    /// The open streams by their numbers, which load the links.
-    pub streams: &'a [Option<Stream>; 64],
+    /// The open streams by their numbers, which load the links; a number past the end is not open.
+    pub streams: &'a [Option<Stream>],
 }
 
 // Whether a route may go from one lane to another at a turn.

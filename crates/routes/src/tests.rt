@@ -171,3 +171,23 @@ fn loads_of_two_streams(rt: HostRuntime) -> Result<(), Fail> {
     assert_eq!(rt; link_load(&streams, 1), 0);
     Ok(())
 }
+
+// A number past the end of a table is not open, and the 65th entry of a longer one does not count.
+#[test]
+fn loads_by_tables_of_any_length(rt: HostRuntime) -> Result<(), Fail> {
+    let stream = Some(Stream {
+        request: Request {
+            source: 0,
+            target: 1,
+            demand: 7,
+        },
+        route: Route::new(&[Hop { link: 0, lane: 0 }])?,
+    });
+    assert_eq!(rt; link_load(&[], 0), 0);
+    assert_eq!(rt; link_load(&[None, stream], 0), 7);
+    let mut longer = [None; 65];
+    longer[63] = stream;
+    longer[64] = stream;
+    assert_eq!(rt; link_load(&longer, 0), 7);
+    Ok(())
+}

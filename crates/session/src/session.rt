@@ -35,7 +35,7 @@ fn judge_unloaded(mesh: &Mesh, request: Request, hops: &[Hop]) -> Result<(), Dec
     let limits = Limits {
         lanes: 4,
         capacity: 65535,
-        streams: &[None; 64],
+        streams: &[],
     };
     judge(mesh, limits, request, hops)
 }

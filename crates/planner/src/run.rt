@@ -3,6 +3,7 @@ use crate::picture::print_loads;
 use crate::table::print_streams;
 use rehearsal::total::Total;
 use session::answer::Answer;
+use session::brief::Brief;
 use session::session::Session;
 use std::io;
 use std::io::{BufRead, Write};
@@ -19,6 +20,39 @@ fn say(rt: &HostRuntime, line: &[u8]) -> io::Result<()> {
     println!(rt; "")
 }
 
+// Prints the reply to a line of a script, and adds up what its rehearsals come to.
+fn reply(
+    rt: &HostRuntime,
+    session: &mut Session,
+    total: &mut Total,
+    number: u64,
+    line: &[u8],
+) -> io::Result<()> {
+    match session.reply_briefly(rt.alloc(), number, line) {
+        None => Ok(()),
+        Some(Ok(None)) => {
+            let answer = session.kept();
+            if let Answer::Rehearsed(rehearsal) = answer {
+                *total = total.and(rehearsal);
+            }
+            println!(rt; "{answer}")
+        }
+        Some(Ok(Some(Brief::Say))) => say(rt, line),
+        Some(Ok(Some(Brief::Streams))) => print_streams(rt, session),
+        Some(Ok(Some(Brief::Picture))) => print_loads(rt, session),
+        Some(Ok(Some(Brief::Report))) => println!(rt; "{total}"),
+        Some(Ok(Some(brief))) => {
+            if let Brief::CameOut(_, items) = brief {
+                if let Some(out) = session.came_out(items) {
+                    print!(rt; "{out}")?;
+                }
+            }
+            println!(rt; "{brief}")
+        }
+        Some(Err(failure)) => println!(rt; "{failure}"),
+    }
+}
+
 // Reads a script and prints the reply to each of its lines.
 pub(crate) fn run<R: BufRead + Drop>(rt: &HostRuntime, script: R) -> io::Result<()> {
     let mut session = Session::new();
@@ -28,25 +62,7 @@ pub(crate) fn run<R: BufRead + Drop>(rt: &HostRuntime, script: R) -> io::Result<
     for line in script.split(rt.alloc(), b'\n') {
         let line = line?;
         number = number.saturating_add(1);
-        match session.reply(rt.alloc(), number, line.as_slice()) {
-            None => {}
-            Some(Ok(Answer::Say)) => say(rt, line.as_slice())?,
-            Some(Ok(Answer::Streams)) => print_streams(rt, &session)?,
-            Some(Ok(Answer::Picture)) => print_loads(rt, &session)?,
-            Some(Ok(Answer::Report)) => println!(rt; "{total}")?,
-            Some(Ok(Answer::CameOut(steps, items))) => {
-                if let Some(out) = session.came_out(items) {
-                    print!(rt; "{out}")?;
-                }
-                println!(rt; "{}", Answer::CameOut(steps, items))?;
-            }
-            Some(Ok(Answer::Rehearsed(rehearsal))) => {
-                total = total.and(&rehearsal);
-                println!(rt; "{}", Answer::Rehearsed(rehearsal))?;
-            }
-            Some(Ok(answer)) => println!(rt; "{answer}")?,
-            Some(Err(failure)) => println!(rt; "{failure}")?,
-        }
+        reply(rt, &mut session, &mut total, number, line.as_slice())?;
     }
     Ok(())
 }

@@ -8,6 +8,7 @@ use Rattle.lanes.specs.declared.strip.Strip.{Strip}
 use Rattle.grid.specs.declared.tables.Tables.{Tables}
 use Rattle.grid.specs.Sweeps.{Workspace}
 use Rattle.codec.specs.declared.head.Head.{Head}
+use Rattle.session.specs.declared.answer.Answer.{Answer}
 use Rattle.session.specs.declared.at_hand.GridAtHand.{GridAtHand}
 use Rattle.session.specs.declared.session.Session.{Session}
 
@@ -46,3 +47,7 @@ grid_of g = record {
 
 abbrev pub hand_of : Session → Hand
 hand_of s = record { mesh = option_map meaning_of s.mesh; grid = option_map grid_of s.grid }
+
+-- the long answer that a session keeps
+abbrev pub kept_of : Session → Answer
+kept_of s = s.long

@@ -47,7 +47,9 @@ use Rattle.script.specs.Reads.{Read}
 use Rattle.script.specs.Commands as command
 use Rattle.script.specs.Commands.{Instruction, command_of, NeedsMemory}
 use Rattle.session.specs.declared.answer.Answer.{Answer}
-use Rattle.session.specs.declared.answer.Answer.TheVariants.{Made, Ends, Turn, Accepted, Moved, Out, Fields, Route, Load, Count, Ahead, CameOut, Loaded, Written, Checked, Rehearsed, Report, Streams, Picture, Say}
+use Rattle.session.specs.declared.answer.Answer.TheVariants as answer
+use Rattle.session.specs.declared.brief.Brief.{Brief}
+use Rattle.session.specs.declared.brief.Brief.TheVariants.{Made, Ends, Turn, Accepted, Moved, Out, Fields, Load, Count, Ahead, CameOut, Loaded, Checked, Report, Streams, Picture, Say}
 use Rattle.session.specs.declared.failure.Failure.{Failure}
 use Rattle.session.specs.declared.failure.Failure.TheVariants as failure
 use Rattle.session.specs.declared.failure.LineFailure.{LineFailure}
@@ -60,6 +62,10 @@ use Rattle.session.specs.Hands.{GridHand, Hand, kind_of, workspace_of}
 abbrev pub Response : Type 0
 Response = Result Answer Failure
 
+-- a short answer
+abbrev pub told : Brief → Response
+told brief = Ok (answer.Brief brief)
+
 abbrev pub refused : Refusal → Response
 refused refusal = Err (failure.Declined (no_hop refusal))
 
@@ -68,7 +74,7 @@ refused refusal = Err (failure.Declined (no_hop refusal))
 -- a mesh is made where its size is in range; else the refusal leaves what is at hand
 abbrev pub MakesMesh : Hand → TurnRule → ℕ → ℕ → Response → Hand → Type 0
 MakesMesh before rule w h r after =
-    (InRange w h × (r ≡ Ok (Made (mesh_meaning rule w h).tiles (mesh_meaning rule w h).links))
+    (InRange w h × (r ≡ told (Made (mesh_meaning rule w h).tiles (mesh_meaning rule w h).links))
     × (after ≡ record { mesh = Some (mesh_meaning rule w h); grid = before.grid }))
     ⊎ ((InRange w h → ⊥) × (r ≡ refused MeshSize) × (after ≡ before))
 
@@ -79,7 +85,7 @@ unloaded m = record { layout = m; lanes = 4; capacity = 65535; load = λ _. 0 }
 
 -- what a call that has no value answers, where the refusal may tell a hop
 abbrev pub ended : Result (Unit {0}) Declined → Response
-ended (Ok a) = Ok Accepted
+ended (Ok a) = told Accepted
 ended (Err d) = Err (failure.Declined d)
 
 -- a question about the mesh at hand
@@ -111,7 +117,7 @@ pub record NewGrid (m : Meaning) (head : Head) (g : GridHand) : Type 0 where
 abbrev pub MakesGrid : Hand → TurnRule → ℕ → ℕ → ℕ → ℕ → ℕ → Response → Hand → Type 0
 MakesGrid before rule w h lanes depth capacity r after =
     (InRange w h × ((g : GridHand) × NewGrid (mesh_meaning rule w h) (head_of rule w h lanes depth capacity) g
-    × (r ≡ Ok Accepted) × (after ≡ record { mesh = Some (mesh_meaning rule w h); grid = Some g })))
+    × (r ≡ told Accepted) × (after ≡ record { mesh = Some (mesh_meaning rule w h); grid = Some g })))
     ⊎ ((InRange w h × ((e : MakeError) × NotMade lanes depth capacity e × (r ≡ Err (making_failure e)) × (after ≡ before)))
     ⊎ ((InRange w h → ⊥) × (r ≡ refused MeshSize) × (after ≡ before)))
 
@@ -130,8 +136,11 @@ abbrev pub response_by : {A : Type 0} → (A → Answer) → Result A Refusal �
 response_by f (Ok a) = Ok (f a)
 response_by f (Err refusal) = refused refusal
 
+abbrev pub brief_by : {A : Type 0} → (A → Brief) → Result A Refusal → Response
+brief_by f = response_by (λ a. answer.Brief (f a))
+
 -- what a step that goes answers
-abbrev pub stepped : Step Strip → Answer
+abbrev pub stepped : Step Strip → Brief
 stepped (step.Moved n) = Moved n
 stepped (step.Out n x) = Out n x
 
@@ -159,50 +168,51 @@ Opens n q hops g r g' =
 abbrev pub Closes : ℕ → GridHand → Response → GridHand → Type 0
 Closes n g r g' =
     (a : Result (Unit {0}) Refusal) × Edits (kind_of g) g.tables (closes n) (answer_of (λ _. done) a) g'.tables
-    × KeepsLent g g' × (r ≡ response_by (λ _. Accepted) a)
+    × KeepsLent g g' × (r ≡ brief_by (λ _. Accepted) a)
 
 abbrev pub Sends : ℕ → Strip → GridHand → Response → GridHand → Type 0
 Sends n x g r g' =
     (a : Result (Unit {0}) Refusal) × Makes (kind_of g) g.tables g.slots (sends n x) (answer_of (λ _. done) a) g'.tables g'.slots
-    × KeepsOut g g' × (r ≡ response_by (λ _. Accepted) a)
+    × KeepsOut g g' × (r ≡ brief_by (λ _. Accepted) a)
 
 abbrev pub Steps : Hop → GridHand → Response → GridHand → Type 0
 Steps h g r g' =
     (a : Result (Step Strip) Refusal) × Makes (kind_of g) g.tables g.slots (steps h.link h.lane) (answer_of step_answer a) g'.tables g'.slots
-    × KeepsOut g g' × (r ≡ response_by stepped a)
+    × KeepsOut g g' × (r ≡ brief_by stepped a)
 
 -- A sweep of the grid, which is not refused. It tells how many steps went and how many items came out; these stand at the front of both tables.
 abbrev pub Sweeps : GridHand → Response → GridHand → Type 0
 Sweeps g r g' =
-    (told : Sweep) × Swept (workspace_of g) told (workspace_of g') × IsAsMade g g' × (r ≡ Ok (CameOut told.steps told.items))
+    (swept : Sweep) × Swept (workspace_of g) swept (workspace_of g') × IsAsMade g g' × (r ≡ told (CameOut swept.steps swept.items))
 
 -- and a drain of it
 abbrev pub Drains : GridHand → Response → GridHand → Type 0
 Drains g r g' =
-    (told : Drain) × Drained (workspace_of g) told (workspace_of g') × IsAsMade g g' × (r ≡ Ok (CameOut told.steps told.items))
+    (drained : Drain) × Drained (workspace_of g) drained (workspace_of g')
+    × IsAsMade g g' × (r ≡ told (CameOut drained.steps drained.items))
 
 -- a route in a table of 24 hops, which are 0.0 behind its own
 abbrev pub routed : List Hop → Answer
-routed hops = Route (hops ++ drop (length hops) (replicate 24 (hop_on 0 0))) (length hops)
+routed hops = answer.Route (hops ++ drop (length hops) (replicate 24 (hop_on 0 0))) (length hops)
 
 -- the questions, each by its answer
 abbrev pub fields : ℕ → GridHand → Response
-fields n g = response_by Fields (fields_of (streams_in g.tables) n)
+fields n g = brief_by Fields (fields_of (streams_in g.tables) n)
 
 abbrev pub route : ℕ → GridHand → Response
 route n g = response_by routed (hops_of_stream (streams_in g.tables) n)
 
 abbrev pub link_load : ℕ → GridHand → Response
-link_load k g = response_by Load (load_on g.layout.links (streams_in g.tables) k)
+link_load k g = brief_by Load (load_on g.layout.links (streams_in g.tables) k)
 
 abbrev pub count : Hop → GridHand → Response
-count h g = response_by Count (count_in (setting (kind_of g) g.tables 0) (outline g.tables) h)
+count h g = brief_by Count (count_in (setting (kind_of g) g.tables 0) (outline g.tables) h)
 
 abbrev pub items : GridHand → Response
-items g = Ok (Count (item_count (setting (kind_of g) g.tables 0) (outline g.tables)))
+items g = told (Count (item_count (setting (kind_of g) g.tables 0) (outline g.tables)))
 
 abbrev pub ahead : GridHand → Response
-ahead g = Ok (Ahead (hops_ahead (setting (kind_of g) g.tables 0) (outline g.tables)))
+ahead g = told (Ahead (hops_ahead (setting (kind_of g) g.tables 0) (outline g.tables)))
 
 -- a seek answers the route that its stream has then, or what declines it
 abbrev pub sought : ℕ → GridHand → Result ℕ Declined → Response
@@ -221,7 +231,7 @@ Searches n q measure g r g' =
 
 -- what a load answers: how many records its plan has, or the fault
 abbrev pub loaded : Result ℕ LoadFault → Response
-loaded (Ok count) = Ok (Loaded count)
+loaded (Ok count) = told (Loaded count)
 loaded (Err f) = Err (failure.NotLoaded f)
 
 -- A load is lent nothing. The records ahead of a fault stay open.
@@ -231,7 +241,7 @@ LoadsPlan plan g r g' =
 
 -- a plan in a table of 3530 bytes, which are 0 behind its own
 abbrev pub written : List ℕ → Answer
-written plan = Written (plan ++ drop (length plan) (replicate 3530 0)) (length plan)
+written plan = answer.Written (plan ++ drop (length plan) (replicate 3530 0)) (length plan)
 
 -- the plan of the open streams, under the grid's head
 abbrev pub plan_of : GridHand → Response
@@ -239,7 +249,7 @@ plan_of g = Ok (written (plan_bytes g.head (streams_in g.tables)))
 
 -- what a check answers: what the grid bears, or the fault
 abbrev pub checked : Result Summary LoadFault → Response
-checked (Ok summary) = Ok (Checked summary)
+checked (Ok summary) = told (Checked summary)
 checked (Err f) = Err (failure.NotLoaded f)
 
 -- The verdict on a plan; or there is no memory for the grid that its accepted head asks for.
@@ -250,7 +260,7 @@ ChecksPlan plan r = (r ≡ checked (verdict_of plan)) ⊎ (IsOk (own_head (take 
 -- both tables for what comes out.
 abbrev pub RehearsesStreams : ℕ → GridHand → Response → GridHand → Type 0
 RehearsesStreams strips g r g' =
-    (a : Result Rehearsal Refusal) × MayRehearse strips (workspace_of g) a (workspace_of g') × IsAsMade g g' × (r ≡ response_by Rehearsed a)
+    (a : Result Rehearsal Refusal) × MayRehearse strips (workspace_of g) a (workspace_of g') × IsAsMade g g' × (r ≡ response_by answer.Rehearsed a)
 
 -- the grid at hand, with the width and the height in its head
 abbrev pub Shows : Mesh → Tables → ℕ → ℕ → Hand → Type 0
@@ -267,8 +277,8 @@ ShowsOut count streams items hand =
 -- the response to each command, and what is at hand after it
 abbrev pub Answers : Hand → Instruction → Response → Hand → Type 0
 Answers before (command.mesh rule w h) r after = MakesMesh before rule w h r after
-Answers before (command.link k) r after = (r ≡ by_mesh (λ m. Ok (Ends (m.start k) (m.end k))) before.mesh) × (after ≡ before)
-Answers before (command.turn a b) r after = (r ≡ by_mesh (λ m. Ok (Turn (m.turn a b))) before.mesh) × (after ≡ before)
+Answers before (command.link k) r after = (r ≡ by_mesh (λ m. told (Ends (m.start k) (m.end k))) before.mesh) × (after ≡ before)
+Answers before (command.turn a b) r after = (r ≡ by_mesh (λ m. told (Turn (m.turn a b))) before.mesh) × (after ≡ before)
 Answers before (command.judge q hops) r after = (r ≡ by_mesh (λ m. ended (verdict (judgement (unloaded m) q hops))) before.mesh) × (after ≡ before)
 Answers before (command.grid rule w h lanes depth capacity) r after = MakesGrid before rule w h lanes depth capacity r after
 Answers before (command.opens n q hops) r after = OnGrid (Opens n q hops) before.mesh before.grid r after
@@ -288,10 +298,10 @@ Answers before (command.loads plan) r after = OnGrid (LoadsPlan plan) before.mes
 Answers before command.writes r after = (r ≡ by_grid plan_of before.grid) × (after ≡ before)
 Answers before (command.checks plan) r after = ChecksPlan plan r × (after ≡ before)
 Answers before (command.rehearses strips beat) r after = OnGrid (RehearsesStreams strips) before.mesh before.grid r after
-Answers before command.reports r after = (r ≡ Ok Report) × (after ≡ before)
-Answers before command.streams r after = (r ≡ by_grid (λ _. Ok Streams) before.grid) × (after ≡ before)
-Answers before command.picture r after = (r ≡ by_grid (λ _. Ok Picture) before.grid) × (after ≡ before)
-Answers before command.says r after = (r ≡ Ok Say) × (after ≡ before)
+Answers before command.reports r after = (r ≡ told Report) × (after ≡ before)
+Answers before command.streams r after = (r ≡ by_grid (λ _. told Streams) before.grid) × (after ≡ before)
+Answers before command.picture r after = (r ≡ by_grid (λ _. told Picture) before.grid) × (after ≡ before)
+Answers before command.says r after = (r ≡ told Say) × (after ≡ before)
 
 -- the reply to a line: the answer to its command, or the failure with the line's number
 abbrev pub Reply : Type 0
@@ -311,3 +321,50 @@ RepliesTo before n (Err m) r after = (r ≡ Some (reply_of n (Err (failure.Mista
 abbrev pub Replies : Hand → ℕ → List ℕ → Option Reply → Hand → Type 0
 Replies before n line r after =
     RepliesTo before n (command_of (words_of line)) r after ⊎ (NeedsMemory (words_of line) × RepliesTo before n (Err OutOfMemory) r after)
+
+-- ---- answers told briefly
+
+-- the response of a call all whose answers are short
+abbrev pub short : Result Brief Failure → Response
+short (Ok brief) = told brief
+short (Err f) = Err f
+
+-- The response, or the reply, that is told briefly while a long answer is kept: none stands for the answer that is kept.
+abbrev pub whole : {E : Type 0} → Answer → Result (Option Brief) E → Result Answer E
+whole kept (Ok (Some brief)) = Ok (answer.Brief brief)
+whole kept (Ok None) = Ok kept
+whole kept (Err e) = Err e
+
+-- a route, a plan or what a rehearsal came to
+abbrev pub IsLong : Answer → Type 0
+IsLong (answer.Brief brief) = ⊥
+IsLong (answer.Route table count) = Unit {0}
+IsLong (answer.Written table count) = Unit {0}
+IsLong (answer.Rehearsed rehearsal) = Unit {0}
+
+-- what is kept stays, unless another long answer takes its place, for which none is told
+abbrev pub KeepsUnlessLong : {E : Type 0} → Result (Option Brief) E → Answer → Answer → Type 0
+KeepsUnlessLong (Ok None) before after = IsLong after
+KeepsUnlessLong (Ok (Some brief)) before after = after ≡ before
+KeepsUnlessLong (Err e) before after = after ≡ before
+
+-- the same of a line, where there is a reply
+abbrev pub LineKeeps : Option (Result (Option Brief) LineFailure) → Answer → Answer → Type 0
+LineKeeps None before after = after ≡ before
+LineKeeps (Some r) before after = KeepsUnlessLong r before after
+
+-- the latest long answer: the one that is kept, or the next if it is long
+abbrev pub latest : Answer → Answer → Answer
+latest kept (answer.Brief brief) = kept
+latest kept (answer.Route table count) = answer.Route table count
+latest kept (answer.Written table count) = answer.Written table count
+latest kept (answer.Rehearsed rehearsal) = answer.Rehearsed rehearsal
+
+-- what is kept after a response, or a reply
+abbrev pub kept_after : {E : Type 0} → Answer → Result Answer E → Answer
+kept_after kept (Ok a) = latest kept a
+kept_after kept (Err e) = kept
+
+abbrev pub kept_after_line : Answer → Option Reply → Answer
+kept_after_line kept None = kept
+kept_after_line kept (Some r) = kept_after kept r

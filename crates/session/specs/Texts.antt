@@ -10,7 +10,9 @@ use Rattle.lanes.specs.declared.strip.Strip.{Strip}
 use Rattle.rehearsal.specs.declared.tally.Tally.{Tally}
 use Rattle.script.specs.Mistakes.{text_of}
 use Rattle.session.specs.declared.answer.Answer.{Answer}
-use Rattle.session.specs.declared.answer.Answer.TheVariants.{Made, Ends, Turn, Accepted, Moved, Out, Fields, Route, Load, Count, Ahead, CameOut, Loaded, Written, Checked, Rehearsed, Report, Streams, Picture, Say}
+use Rattle.session.specs.declared.answer.Answer.TheVariants as answer
+use Rattle.session.specs.declared.brief.Brief.{Brief}
+use Rattle.session.specs.declared.brief.Brief.TheVariants.{Made, Ends, Turn, Accepted, Moved, Out, Fields, Load, Count, Ahead, CameOut, Loaded, Checked, Report, Streams, Picture, Say}
 use Rattle.session.specs.declared.failure.Failure.{Failure}
 use Rattle.session.specs.declared.failure.Failure.TheVariants as failure
 use Rattle.session.specs.declared.failure.LineFailure.{LineFailure}
@@ -44,33 +46,37 @@ tally_lines tallies zero = []
 tally_lines tallies (suc n) = tally_lines tallies n ++ tally_line n (slice_index_or tallies n None)
 
 -- ok TILES LINKS, ok START END, a turn's word, ok, moved STREAM, out STREAM FRAGMENT BAND ROW, ok FROM TO DEMAND,
--- ok HOPS HOP.., ok LOAD, ok COUNT, ok HOPS, ok STEPS ITEMS, ok RECORDS, ok BYTES HEX, ok STREAMS HOPS LOAD, what was
--- seen of each stream with ok STEPS ITEMS, or the name of a command whose answer is told by who runs the script
+-- ok LOAD, ok COUNT, ok HOPS, ok STEPS ITEMS, ok RECORDS, ok STREAMS HOPS LOAD, or the name of a command whose answer is
+-- told by who runs the script
+abbrev pub brief_text : Brief → List ℕ
+brief_text (Made tiles links) = codes "ok " ++ (decimal tiles ++ (codes " " ++ decimal links))
+brief_text (Ends start end) = codes "ok " ++ (decimal start ++ (codes " " ++ decimal end))
+brief_text (Turn turn) = word_of turn
+brief_text Accepted = codes "ok"
+brief_text (Moved n) = codes "moved " ++ decimal n
+brief_text (Out n x) = codes "out " ++ (decimal n ++ (codes " " ++ (decimal x.fragment ++ (codes " " ++ (decimal x.band ++ (codes " " ++ decimal x.row))))))
+brief_text (Fields q) = codes "ok " ++ (decimal q.source ++ (codes " " ++ (decimal q.target ++ (codes " " ++ decimal q.demand))))
+brief_text (Load n) = codes "ok " ++ decimal n
+brief_text (Count n) = codes "ok " ++ decimal n
+brief_text (Ahead hops) = codes "ok " ++ decimal hops
+brief_text (CameOut steps items) = codes "ok " ++ (decimal steps ++ (codes " " ++ decimal items))
+brief_text (Loaded records) = codes "ok " ++ decimal records
+brief_text (Checked summary) = summary_text summary
+brief_text Report = codes "report"
+brief_text Streams = codes "streams"
+brief_text Picture = codes "picture"
+brief_text Say = codes "say"
+
+-- a short answer, ok HOPS HOP.., ok BYTES HEX, or what was seen of each stream with ok STEPS ITEMS
 abbrev pub answer_text : Answer → List ℕ
-answer_text (Made tiles links) = codes "ok " ++ (decimal tiles ++ (codes " " ++ decimal links))
-answer_text (Ends start end) = codes "ok " ++ (decimal start ++ (codes " " ++ decimal end))
-answer_text (Turn turn) = word_of turn
-answer_text Accepted = codes "ok"
-answer_text (Moved n) = codes "moved " ++ decimal n
-answer_text (Out n x) = codes "out " ++ (decimal n ++ (codes " " ++ (decimal x.fragment ++ (codes " " ++ (decimal x.band ++ (codes " " ++ decimal x.row))))))
-answer_text (Fields q) = codes "ok " ++ (decimal q.source ++ (codes " " ++ (decimal q.target ++ (codes " " ++ decimal q.demand))))
-answer_text (Route table count) = codes "ok " ++ (decimal count ++ flat_map hop_text (take (min count 24) table))
-answer_text (Load n) = codes "ok " ++ decimal n
-answer_text (Count n) = codes "ok " ++ decimal n
-answer_text (Ahead hops) = codes "ok " ++ decimal hops
-answer_text (CameOut steps items) = codes "ok " ++ (decimal steps ++ (codes " " ++ decimal items))
-answer_text (Loaded records) = codes "ok " ++ decimal records
-answer_text (Checked summary) = summary_text summary
-answer_text (Rehearsed r) = tally_lines r.tallies 64 ++ (codes "ok " ++ (decimal r.steps ++ (codes " " ++ decimal r.items)))
-answer_text Report = codes "report"
-answer_text Streams = codes "streams"
-answer_text Picture = codes "picture"
-answer_text Say = codes "say"
-answer_text (Written table count) = codes "ok " ++ (decimal count ++ (codes " " ++ flat_map byte_text (take (min count 3530) table)))
+answer_text (answer.Brief brief) = brief_text brief
+answer_text (answer.Route table count) = codes "ok " ++ (decimal count ++ flat_map hop_text (take (min count 24) table))
+answer_text (answer.Rehearsed r) = tally_lines r.tallies 64 ++ (codes "ok " ++ (decimal r.steps ++ (codes " " ++ decimal r.items)))
+answer_text (answer.Written table count) = codes "ok " ++ (decimal count ++ (codes " " ++ flat_map byte_text (take (min count 3530) table)))
 
 -- what came out, a line for each item with its stream: out STREAM FRAGMENT BAND ROW
 abbrev pub out_line : (ℕ × Strip) → List ℕ
-out_line i = answer_text (Out i.0 i.1) ++ 10 ∷ []
+out_line i = brief_text (Out i.0 i.1) ++ 10 ∷ []
 
 abbrev pub out_lines : List ℕ → List Strip → List ℕ
 out_lines streams items = flat_map out_line (zip streams items)

@@ -1,5 +1,5 @@
 // The grid at hand, and its answers.
-ghost use Rattle.std.specs.Prelude.{◌≡◌, length, Ok, MatchResult, vec_items};
+ghost use Rattle.std.specs.Prelude.{◌≡◌, length, Ok, MatchResult, IfOk, vec_items};
 ghost use Rattle.layouts.specs.Mesh.{meaning_of};
 ghost use Rattle.lanes.specs.Sizes.{slot_count};
 ghost use Rattle.search.specs.Scales.{choice, total, peak};
@@ -13,6 +13,7 @@ ghost use Rattle.session.specs.Measures.{scale_of};
 ghost use Rattle.session.specs.Heads.{IsOfMesh, IsAllowed};
 
 use crate::answer::Answer;
+use crate::brief::Brief;
 use crate::failure::Failure;
 use codec::head::Head;
 use grid::grid::Grid;
@@ -76,7 +77,7 @@ fn measure_of(name: MeasureName) -> Choice<Total, Peak>
 
 impl GridAtHand {
     ghost use Rattle.session.specs.Hands.{grid_of};
-    ghost use Rattle.session.specs.Sessions.{NewGrid, Opens, Searches, Closes, Sends, Steps, Sweeps, Drains, LoadsPlan, RehearsesStreams, fields, route, link_load, count, items, ahead, plan_of};
+    ghost use Rattle.session.specs.Sessions.{NewGrid, Opens, Searches, Closes, Sends, Steps, Sweeps, Drains, LoadsPlan, RehearsesStreams, told, short, IsLong, fields, route, link_load, count, items, ahead, plan_of};
 
     // A blank grid of the sizes in its head, with all that it is lent and its scratch.
     pub(crate) fn blank(heap: Global, mesh: Mesh, head: Head) -> Result<GridAtHand, MakeError>
@@ -113,11 +114,12 @@ impl GridAtHand {
         stream: u16,
         request: Request,
         hops: &[Hop],
-    ) -> Result<Answer, Failure>
-        ensures { Opens stream request hops.now (grid_of self.old) result (grid_of self.new) }
+    ) -> Result<Brief, Failure>
+        ensures { Opens stream request hops.now (grid_of self.old) (short result)
+            (grid_of self.new) }
     {
         self.grid.open(stream, request, hops)?;
-        Ok(Answer::Accepted)
+        Ok(Brief::Accepted)
     }
 
     // Opens a stream on a best route, and answers that route.
@@ -127,7 +129,9 @@ impl GridAtHand {
         request: Request,
         measure: MeasureName,
     ) -> Result<Answer, Failure>
-        ensures { Searches stream request measure (grid_of self.old) result (grid_of self.new) }
+        ensures value { Searches stream request measure (grid_of self.old) result
+            (grid_of self.new) }
+        ensures long { IfOk result IsLong }
     {
         self.grid.seek(
             stream,
@@ -140,41 +144,41 @@ impl GridAtHand {
     }
 
     // Closes a stream.
-    pub(crate) fn close(&mut self, stream: u16) -> Result<Answer, Failure>
-        ensures { Closes stream (grid_of self.old) result (grid_of self.new) }
+    pub(crate) fn close(&mut self, stream: u16) -> Result<Brief, Failure>
+        ensures { Closes stream (grid_of self.old) (short result) (grid_of self.new) }
     {
         self.grid.close(stream)?;
-        Ok(Answer::Accepted)
+        Ok(Brief::Accepted)
     }
 
     // Loads a plan.
-    pub(crate) fn load(&mut self, plan: &[u8]) -> Result<Answer, Failure>
-        ensures { LoadsPlan plan.now (grid_of self.old) result (grid_of self.new) }
+    pub(crate) fn load(&mut self, plan: &[u8]) -> Result<Brief, Failure>
+        ensures { LoadsPlan plan.now (grid_of self.old) (short result) (grid_of self.new) }
     {
-        Ok(Answer::Loaded(load(&mut self.grid, plan)?))
+        Ok(Brief::Loaded(load(&mut self.grid, plan)?))
     }
 
     // Sends a strip.
-    pub(crate) fn send(&mut self, stream: u16, strip: Strip) -> Result<Answer, Failure>
-        ensures { Sends stream strip (grid_of self.old) result (grid_of self.new) }
+    pub(crate) fn send(&mut self, stream: u16, strip: Strip) -> Result<Brief, Failure>
+        ensures { Sends stream strip (grid_of self.old) (short result) (grid_of self.new) }
     {
         self.grid.send(self.slots.as_mut_slice(), stream, strip)?;
-        Ok(Answer::Accepted)
+        Ok(Brief::Accepted)
     }
 
     // Steps a lane.
-    pub(crate) fn step(&mut self, hop: Hop) -> Result<Answer, Failure>
-        ensures { Steps hop (grid_of self.old) result (grid_of self.new) }
+    pub(crate) fn step(&mut self, hop: Hop) -> Result<Brief, Failure>
+        ensures { Steps hop (grid_of self.old) (short result) (grid_of self.new) }
     {
         match self.grid.step(self.slots.as_mut_slice(), hop)? {
-            Step::Moved(stream) => Ok(Answer::Moved(stream)),
-            Step::Out(stream, strip) => Ok(Answer::Out(stream, strip)),
+            Step::Moved(stream) => Ok(Brief::Moved(stream)),
+            Step::Out(stream, strip) => Ok(Brief::Out(stream, strip)),
         }
     }
 
     // Sweeps the grid.
-    pub(crate) fn sweep(&mut self) -> Answer
-        ensures { Sweeps (grid_of self.old) (Ok result) (grid_of self.new) }
+    pub(crate) fn sweep(&mut self) -> Brief
+        ensures { Sweeps (grid_of self.old) (told result) (grid_of self.new) }
     {
         // all slots are lent, and an entry for each lane
         let swept = self
@@ -185,12 +189,12 @@ impl GridAtHand {
                 self.items.as_mut_slice(),
             )
             .unwrap();
-        Answer::CameOut(swept.steps, swept.items)
+        Brief::CameOut(swept.steps, swept.items)
     }
 
     // Drains the grid.
-    pub(crate) fn drain(&mut self) -> Answer
-        ensures { Drains (grid_of self.old) (Ok result) (grid_of self.new) }
+    pub(crate) fn drain(&mut self) -> Brief
+        ensures { Drains (grid_of self.old) (told result) (grid_of self.new) }
     {
         // all slots are lent, and an entry for each item and for each lane
         let drained = self
@@ -201,12 +205,13 @@ impl GridAtHand {
                 self.items.as_mut_slice(),
             )
             .unwrap();
-        Answer::CameOut(drained.steps, drained.items)
+        Brief::CameOut(drained.steps, drained.items)
     }
 
     // Rehearses the open streams.
     pub(crate) fn rehearse(&mut self, strips: u16, beat: BeatName) -> Result<Answer, Failure>
-        ensures { RehearsesStreams strips (grid_of self.old) result (grid_of self.new) }
+        ensures value { RehearsesStreams strips (grid_of self.old) result (grid_of self.new) }
+        ensures long { IfOk result IsLong }
     {
         let beat = match beat {
             BeatName::Even => Beat::Even,
@@ -224,15 +229,16 @@ impl GridAtHand {
     }
 
     // What a stream asked for.
-    pub(crate) fn fields(&self, stream: u16) -> Result<Answer, Failure>
-        ensures { result ≡ fields stream (grid_of self.now) }
+    pub(crate) fn fields(&self, stream: u16) -> Result<Brief, Failure>
+        ensures { short result ≡ fields stream (grid_of self.now) }
     {
-        Ok(Answer::Fields(self.grid.stream(stream)?))
+        Ok(Brief::Fields(self.grid.stream(stream)?))
     }
 
     // The route of a stream.
     pub(crate) fn route(&self, stream: u16) -> Result<Answer, Failure>
-        ensures { result ≡ route stream (grid_of self.now) }
+        ensures value { result ≡ route stream (grid_of self.now) }
+        ensures long { IfOk result IsLong }
     {
         let mut hops = [Hop { link: 0, lane: 0 }; 24];
         let count = self.grid.route(stream, &mut hops)?;
@@ -240,36 +246,37 @@ impl GridAtHand {
     }
 
     // The load of a link.
-    pub(crate) fn link_load(&self, link: u16) -> Result<Answer, Failure>
-        ensures { result ≡ link_load link (grid_of self.now) }
+    pub(crate) fn link_load(&self, link: u16) -> Result<Brief, Failure>
+        ensures { short result ≡ link_load link (grid_of self.now) }
     {
-        Ok(Answer::Load(self.grid.link_load(link)?))
+        Ok(Brief::Load(self.grid.link_load(link)?))
     }
 
     // How many items a lane contains.
-    pub(crate) fn count(&self, hop: Hop) -> Result<Answer, Failure>
-        ensures { result ≡ count hop (grid_of self.now) }
+    pub(crate) fn count(&self, hop: Hop) -> Result<Brief, Failure>
+        ensures { short result ≡ count hop (grid_of self.now) }
     {
-        Ok(Answer::Count(usize::from(self.grid.count(hop)?)))
+        Ok(Brief::Count(usize::from(self.grid.count(hop)?)))
     }
 
     // How many items are on the grid.
-    pub(crate) fn items(&self) -> Answer
-        ensures { Ok result ≡ items (grid_of self.now) }
+    pub(crate) fn items(&self) -> Brief
+        ensures { told result ≡ items (grid_of self.now) }
     {
-        Answer::Count(self.grid.items())
+        Brief::Count(self.grid.items())
     }
 
     // How many hops are ahead.
-    pub(crate) fn ahead(&self) -> Answer
-        ensures { Ok result ≡ ahead (grid_of self.now) }
+    pub(crate) fn ahead(&self) -> Brief
+        ensures { told result ≡ ahead (grid_of self.now) }
     {
-        Answer::Ahead(self.grid.hops_ahead())
+        Brief::Ahead(self.grid.hops_ahead())
     }
 
     // The plan of the open streams.
     pub(crate) fn plan(&self) -> Answer
-        ensures { Ok result ≡ plan_of (grid_of self.now) }
+        ensures value { Ok result ≡ plan_of (grid_of self.now) }
+        ensures long { IsLong result }
     {
         let mut plan = [0; 3530];
         // the head is accepted, and the table is long enough

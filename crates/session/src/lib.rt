@@ -3,6 +3,9 @@
 
 pub mod answer;
 mod at_hand;
+pub mod brief;
 pub mod failure;
 mod head;
 pub mod session;
+#[cfg(test)]
+mod tests;

@@ -1,18 +1,25 @@
 // What a script has at hand, and the answers to its lines.
 ghost use Rattle.std.specs.Prelude.{◌≡◌, take, Some, None, MatchOption, MatchResult};
-ghost use Rattle.std.specs.Option.{ok_or};
+ghost use Rattle.std.specs.Option.{ok_or, option_map};
 ghost use Rattle.layouts.specs.Mesh.{meaning_of};
 ghost use Rattle.routes.specs.Checks.{judgement, verdict};
 ghost use Rattle.script.specs.Commands.{instruction_of};
 ghost use Rattle.script.specs.declared.mistake.Mistake.TheVariants.{NoMesh, NoGrid};
-ghost use Rattle.session.specs.Hands.{hand_of};
-ghost use Rattle.session.specs.Sessions.{unloaded, ChecksPlan, Shows, ShowsOut, Answers, Replies};
+ghost use Rattle.grid.specs.Blank.{NotMade};
+ghost use Rattle.session.specs.declared.answer.Answer.TheVariants as answer;
+ghost use Rattle.session.specs.declared.brief.Brief.TheVariants.{Accepted};
+ghost use Rattle.session.specs.Heads.{IsOfMesh};
+ghost use Rattle.session.specs.Hands.{GridHand, hand_of, kept_of};
+ghost use Rattle.session.specs.Sessions.{unloaded, NewGrid, by_grid, OnGrid, Searches, RehearsesStreams, route, plan_of, ChecksPlan, Shows, ShowsOut, Answers, Replies, short, whole, KeepsUnlessLong, LineKeeps, kept_after, kept_after_line};
 
 use crate::answer::{Answer, OutList};
 use crate::at_hand::GridAtHand;
+use crate::brief::Brief;
 use crate::failure::{Failure, LineFailure};
 use crate::head::head_of;
+use codec::head::Head;
 use grid::grid::Grid;
+use grid::make::MakeError;
 use layouts::mesh::Mesh;
 use layouts::rules::Rules;
 use layouts::ways::Ways;
@@ -21,7 +28,7 @@ use routes::declined::Declined;
 use routes::hop::Hop;
 use routes::judge::{Limits, judge};
 use routes::stream::Request;
-use script::command::Command;
+use script::command::{BeatName, Command, MeasureName};
 use script::mistake::Mistake;
 use script::parse::parse;
 use std::alloc::{AllocError, Global};
@@ -41,11 +48,11 @@ fn judge_unloaded(mesh: &Mesh, request: Request, hops: &[Hop]) -> Result<(), Dec
 }
 
 // The verdict on a plan.
-fn checked(heap: Global, plan: &[u8]) -> Result<Answer, Failure>
-    ensures { ChecksPlan plan.now result }
+fn checked(heap: Global, plan: &[u8]) -> Result<Brief, Failure>
+    ensures { ChecksPlan plan.now (short result) }
 {
     match check(heap, plan) {
-        Ok(Ok(summary)) => Ok(Answer::Checked(summary)),
+        Ok(Ok(summary)) => Ok(Brief::Checked(summary)),
         Ok(Err(fault)) => Err(fault.into()),
         Err(AllocError) => Err(Mistake::OutOfMemory.into()),
     }
@@ -69,21 +76,25 @@ pub struct GridOnMesh<'a> {
     pub height: u16,
 }
 
-/// What a script has at hand: the mesh and the grid that it made last, if any.
+/// What a script has at hand: the mesh and the grid that it made last, if any; and the latest long answer.
 #[derive(Drop)]
 pub struct Session {
     mesh: Option<Mesh>,
     grid: Option<GridAtHand>,
+    // kept here, so that no other answer is as long
+    long: Answer,
 }
 
 impl Session {
     /// A session with nothing at hand.
     pub fn new() -> Session
-        ensures { hand_of result ≡ record { mesh = None; grid = None } }
+        ensures hand { hand_of result ≡ record { mesh = None; grid = None } }
+        ensures kept { kept_of result ≡ answer.Brief Accepted }
     {
         Session {
             mesh: None,
             grid: None,
+            long: Answer::Brief(Brief::Accepted),
         }
     }
 
@@ -126,32 +137,113 @@ impl Session {
         })
     }
 
-    /// The answer to a command. A mesh or a grid that is made takes the place of the one at hand; with a grid its mesh is
-    /// at hand too. A refusal or a mistake leaves all at hand as it was; where a plan is not loaded, the records ahead of the fault
-    /// stay open.
-    ///
-    /// Which of equally good routes a seek takes is left open, and so is which stream sends when in a rehearsal.
-    ///
-    /// Refuses what `Mesh::new`, `judge` and the calls of a grid refuse, and tells the fault where a plan is not loaded. Where a mesh or a grid is wanted and none is at
-    /// hand, the mistake is `NoMesh` or `NoGrid`; where there is no memory for a grid, also one that a plan is checked on, it is `OutOfMemory`.
-    pub fn answer(&mut self, heap: Global, command: Command) -> Result<Answer, Failure>
-        ensures { Answers (hand_of self.old) (instruction_of command) result (hand_of self.new) }
+    /// The latest long answer: a route, a plan, or what a rehearsal came to; `Accepted` ahead of the first.
+    pub fn kept(&self) -> &Answer
+        ensures { result.now ≡ kept_of self.now }
+    {
+        &self.long
+    }
+
+    // The functions of what is long are their own, so that `answer_briefly` has room for short answers alone.
+
+    // Makes a blank grid of the sizes in its head on a mesh. Both are at hand then.
+    fn make(&mut self, heap: Global, mesh: Mesh, head: Head) -> Result<(), MakeError>
+        requires { IsOfMesh head }
+        ensures value { MatchResult result
+            (λ _. (g : GridHand) × NewGrid (meaning_of mesh) head g
+            × (hand_of self.new ≡ record { mesh = Some (meaning_of mesh); grid = Some g }))
+            (λ e. NotMade head.lanes head.depth head.capacity e
+            × (hand_of self.new ≡ hand_of self.old)) }
+        ensures kept { kept_of self.new ≡ kept_of self.old }
+    {
+        let grid = GridAtHand::blank(heap, mesh, head)?;
+        self.mesh = Some(mesh);
+        self.grid = Some(grid);
+        Ok(())
+    }
+
+    // Opens a stream on a best route, and keeps the answer.
+    fn seek(
+        &mut self,
+        stream: u16,
+        request: Request,
+        measure: MeasureName,
+    ) -> Result<Option<Brief>, Failure>
+        ensures value { OnGrid (Searches stream request measure) (hand_of self.old).mesh
+            (hand_of self.old).grid (whole (kept_of self.new) result) (hand_of self.new) }
+        ensures kept { KeepsUnlessLong result (kept_of self.old) (kept_of self.new) }
+    {
+        match &mut self.grid {
+            Some(grid) => {
+                self.long = grid.seek(stream, request, measure)?;
+                Ok(None)
+            }
+            None => Err(Mistake::NoGrid.into()),
+        }
+    }
+
+    // Rehearses the open streams, and keeps the answer.
+    fn rehearse(&mut self, strips: u16, beat: BeatName) -> Result<Option<Brief>, Failure>
+        ensures value { OnGrid (RehearsesStreams strips) (hand_of self.old).mesh
+            (hand_of self.old).grid (whole (kept_of self.new) result) (hand_of self.new) }
+        ensures kept { KeepsUnlessLong result (kept_of self.old) (kept_of self.new) }
+    {
+        match &mut self.grid {
+            Some(grid) => {
+                self.long = grid.rehearse(strips, beat)?;
+                Ok(None)
+            }
+            None => Err(Mistake::NoGrid.into()),
+        }
+    }
+
+    // The route of a stream, as the answer that is kept.
+    fn route(&mut self, stream: u16) -> Result<Option<Brief>, Failure>
+        ensures value { whole (kept_of self.new) result
+            ≡ by_grid (route stream) (hand_of self.old).grid }
+        ensures kept { KeepsUnlessLong result (kept_of self.old) (kept_of self.new) }
+        ensures hand { hand_of self.new ≡ hand_of self.old }
+    {
+        self.long = self.grid()?.route(stream)?;
+        Ok(None)
+    }
+
+    // The plan of the open streams, as the answer that is kept.
+    fn write(&mut self) -> Result<Option<Brief>, Failure>
+        ensures value { whole (kept_of self.new) result ≡ by_grid plan_of (hand_of self.old).grid }
+        ensures kept { KeepsUnlessLong result (kept_of self.old) (kept_of self.new) }
+        ensures hand { hand_of self.new ≡ hand_of self.old }
+    {
+        self.long = self.grid()?.plan();
+        Ok(None)
+    }
+
+    /// The answer to a command, as `answer` gives it, told briefly: where it is long, none is told, and `kept` has it from then on. All
+    /// else leaves what is kept as it was.
+    pub fn answer_briefly(
+        &mut self,
+        heap: Global,
+        command: Command,
+    ) -> Result<Option<Brief>, Failure>
+        ensures value { Answers (hand_of self.old) (instruction_of command)
+            (whole (kept_of self.new) result) (hand_of self.new) }
+        ensures kept { KeepsUnlessLong result (kept_of self.old) (kept_of self.new) }
     {
         // A match and not a closure for each command: the command is read from input, and each brings other values.
         match command {
             Command::Mesh(rule, width, height) => {
                 let mesh = Mesh::new(rule, width, height)?;
                 self.mesh = Some(mesh);
-                Ok(Answer::Made(mesh.tiles(), mesh.links()))
+                Ok(Some(Brief::Made(mesh.tiles(), mesh.links())))
             }
             Command::Link(link) => {
                 let mesh = self.mesh()?;
-                Ok(Answer::Ends(mesh.start(link), mesh.end(link)))
+                Ok(Some(Brief::Ends(mesh.start(link), mesh.end(link))))
             }
-            Command::Turn(from, to) => Ok(Answer::Turn(self.mesh()?.turn(from, to))),
+            Command::Turn(from, to) => Ok(Some(Brief::Turn(self.mesh()?.turn(from, to)))),
             Command::Judge(request, hops) => {
                 judge_unloaded(&self.mesh()?, request, hops.as_slice())?;
-                Ok(Answer::Accepted)
+                Ok(Some(Brief::Accepted))
             }
             Command::Grid {
                 rule,
@@ -162,88 +254,124 @@ impl Session {
                 capacity,
             } => {
                 let mesh = Mesh::new(rule, width, height)?;
-                let head = head_of(rule, width, height, lanes, depth, capacity);
-                let grid = GridAtHand::blank(heap, mesh, head)?;
-                self.mesh = Some(mesh);
-                self.grid = Some(grid);
-                Ok(Answer::Accepted)
+                self.make(
+                    heap,
+                    mesh,
+                    head_of(rule, width, height, lanes, depth, capacity),
+                )?;
+                Ok(Some(Brief::Accepted))
             }
             Command::Open(stream, request, hops) => match &mut self.grid {
-                Some(grid) => grid.open(stream, request, hops.as_slice()),
+                Some(grid) => grid.open(stream, request, hops.as_slice()).map(Some),
                 None => Err(Mistake::NoGrid.into()),
             },
-            Command::Seek(stream, request, measure) => match &mut self.grid {
-                Some(grid) => grid.seek(stream, request, measure),
-                None => Err(Mistake::NoGrid.into()),
-            },
+            Command::Seek(stream, request, measure) => self.seek(stream, request, measure),
             Command::Close(stream) => match &mut self.grid {
-                Some(grid) => grid.close(stream),
+                Some(grid) => grid.close(stream).map(Some),
                 None => Err(Mistake::NoGrid.into()),
             },
             Command::Send(stream, strip) => match &mut self.grid {
-                Some(grid) => grid.send(stream, strip),
+                Some(grid) => grid.send(stream, strip).map(Some),
                 None => Err(Mistake::NoGrid.into()),
             },
             Command::Step(hop) => match &mut self.grid {
-                Some(grid) => grid.step(hop),
+                Some(grid) => grid.step(hop).map(Some),
                 None => Err(Mistake::NoGrid.into()),
             },
-            Command::Stream(stream) => self.grid()?.fields(stream),
-            Command::Route(stream) => self.grid()?.route(stream),
-            Command::LinkLoad(link) => self.grid()?.link_load(link),
-            Command::Count(hop) => self.grid()?.count(hop),
-            Command::Items => Ok(self.grid()?.items()),
-            Command::Ahead => Ok(self.grid()?.ahead()),
+            Command::Stream(stream) => self.grid()?.fields(stream).map(Some),
+            Command::Route(stream) => self.route(stream),
+            Command::LinkLoad(link) => self.grid()?.link_load(link).map(Some),
+            Command::Count(hop) => self.grid()?.count(hop).map(Some),
+            Command::Items => Ok(Some(self.grid()?.items())),
+            Command::Ahead => Ok(Some(self.grid()?.ahead())),
             Command::Sweep => match &mut self.grid {
-                Some(grid) => Ok(grid.sweep()),
+                Some(grid) => Ok(Some(grid.sweep())),
                 None => Err(Mistake::NoGrid.into()),
             },
             Command::Drain => match &mut self.grid {
-                Some(grid) => Ok(grid.drain()),
+                Some(grid) => Ok(Some(grid.drain())),
                 None => Err(Mistake::NoGrid.into()),
             },
             Command::Load(plan) => match &mut self.grid {
-                Some(grid) => grid.load(plan.as_slice()),
+                Some(grid) => grid.load(plan.as_slice()).map(Some),
                 None => Err(Mistake::NoGrid.into()),
             },
-            Command::Write => Ok(self.grid()?.plan()),
-            Command::Check(plan) => checked(heap, plan.as_slice()),
-            Command::Rehearse(strips, beat) => match &mut self.grid {
-                Some(grid) => grid.rehearse(strips, beat),
-                None => Err(Mistake::NoGrid.into()),
-            },
-            Command::Report => Ok(Answer::Report),
+            Command::Write => self.write(),
+            Command::Check(plan) => checked(heap, plan.as_slice()).map(Some),
+            Command::Rehearse(strips, beat) => self.rehearse(strips, beat),
+            Command::Report => Ok(Some(Brief::Report)),
             Command::Streams => {
                 self.grid()?;
-                Ok(Answer::Streams)
+                Ok(Some(Brief::Streams))
             }
             Command::Picture => {
                 self.grid()?;
-                Ok(Answer::Picture)
+                Ok(Some(Brief::Picture))
             }
-            Command::Say => Ok(Answer::Say),
+            Command::Say => Ok(Some(Brief::Say)),
         }
     }
 
-    /// The reply to a line of a script, none where the line has no word. Lines are counted from 1. Where there is no
-    /// memory for what the line says, that is the reply, and all at hand is as it was. Which of equally good routes a seek takes is left
-    /// open.
-    pub fn reply(
+    /// The answer to a command. A mesh or a grid that is made takes the place of the one at hand; with a grid its mesh is
+    /// at hand too. A refusal or a mistake leaves all at hand as it was; where a plan is not loaded, the records ahead of the fault
+    /// stay open.
+    ///
+    /// Which of equally good routes a seek takes is left open, and so is which stream sends when in a rehearsal.
+    ///
+    /// Refuses what `Mesh::new`, `judge` and the calls of a grid refuse, and tells the fault where a plan is not loaded. Where a mesh or a grid is wanted and none is at
+    /// hand, the mistake is `NoMesh` or `NoGrid`; where there is no memory for a grid, also one that a plan is checked on, it is `OutOfMemory`.
+    #[tactic(auto, using(crate::proofs::OnGrids::latest_long))]
+    pub fn answer(&mut self, heap: Global, command: Command) -> Result<Answer, Failure>
+        ensures value { Answers (hand_of self.old) (instruction_of command) result
+            (hand_of self.new) }
+        ensures kept { kept_of self.new ≡ kept_after (kept_of self.old) result }
+    {
+        match self.answer_briefly(heap, command)? {
+            Some(brief) => Ok(Answer::Brief(brief)),
+            None => Ok(*self.kept()),
+        }
+    }
+
+    /// The reply to a line of a script, as `reply` gives it, told briefly: where it is a long answer, none is told in its place, and `kept`
+    /// has it from then on. All else leaves what is kept as it was.
+    pub fn reply_briefly(
         &mut self,
         heap: Global,
         number: u64,
         line: &[u8],
-    ) -> Option<Result<Answer, LineFailure>>
-        ensures { Replies (hand_of self.old) number line.now result (hand_of self.new) }
+    ) -> Option<Result<Option<Brief>, LineFailure>>
+        ensures value { Replies (hand_of self.old) number line.now
+            (option_map (whole (kept_of self.new)) result) (hand_of self.new) }
+        ensures kept { LineKeeps result (kept_of self.old) (kept_of self.new) }
     {
         let response = match parse(heap, line) {
             Ok(None) => return None,
-            Ok(Some(command)) => self.answer(heap, command),
+            Ok(Some(command)) => self.answer_briefly(heap, command),
             Err(mistake) => Err(mistake.into()),
         };
         Some(response.map_err(|failure| LineFailure {
             line: number,
             failure,
         }))
+    }
+
+    /// The reply to a line of a script, none where the line has no word. Lines are counted from 1. Where there is no
+    /// memory for what the line says, that is the reply, and all at hand is as it was. Which of equally good routes a seek takes is left
+    /// open.
+    #[tactic(auto, using(crate::proofs::OnGrids::latest_long))]
+    pub fn reply(
+        &mut self,
+        heap: Global,
+        number: u64,
+        line: &[u8],
+    ) -> Option<Result<Answer, LineFailure>>
+        ensures value { Replies (hand_of self.old) number line.now result (hand_of self.new) }
+        ensures kept { kept_of self.new ≡ kept_after_line (kept_of self.old) result }
+    {
+        Some(match self.reply_briefly(heap, number, line)? {
+            Ok(Some(brief)) => Ok(Answer::Brief(brief)),
+            Ok(None) => Ok(*self.kept()),
+            Err(failure) => Err(failure),
+        })
     }
 }

@@ -1,20 +1,24 @@
 // The planner: reads scripts and prints the reply to each of their lines.
 #![tactic(auto)]
 
+mod arguments;
 mod picture;
 mod run;
 mod table;
 
+use crate::arguments::arguments;
 use crate::run::run;
 use std::io::BufReader;
-use std::{env, fs, io};
+use std::{fs, io};
 
 // Runs the scripts in the files that are named, one after another, each from its beginning with nothing at hand; the script on
 // standard input if none is named, and for the name `-`.
 fn main(rt: HostRuntime) -> io::Result<()> {
-    let mut named = false;
-    for name in env::args(&rt)?.skip(1) {
-        named = true;
+    let names = arguments(&rt)?;
+    if names.is_empty() {
+        return run(&rt, BufReader::new(rt.alloc(), rt.stdin())?);
+    }
+    for name in names {
         if name.as_str() == "-" {
             run(&rt, BufReader::new(rt.alloc(), rt.stdin())?)?;
         } else {
@@ -26,9 +30,6 @@ fn main(rt: HostRuntime) -> io::Result<()> {
                 }
             }
         }
-    }
-    if !named {
-        run(&rt, BufReader::new(rt.alloc(), rt.stdin())?)?;
     }
     Ok(())
 }

@@ -1,3 +1,4 @@
+pub mod SameKind
 pub mod WordCuts
 pub mod Decimals
 pub mod Names

@@ -6,10 +6,11 @@ ghost use Rattle.model.proofs.Ranks.{lawful_safe};
 ghost use Rattle.model.proofs.Reopening.{rules_reopen};
 
 use crate::policy::Policy;
+use crate::table_policy::TablePolicy;
 use layouts::rules::Rules;
 use routes::declined::Declined;
 use routes::hop::Hop;
-use routes::judge::{Limits, judge};
+use routes::judge::{Limits, TableLimits, judge, judge_by_table};
 use routes::stream::Request;
 
 /// Streams climb: from hop to hop the lane rises, or it stays and the link lies higher. So lane and height are a rank that
@@ -28,5 +29,16 @@ impl<L: Rules> Policy<L> for Climbing {
 
     fn judge(ways: &L, limits: Limits<'_>, request: Request, hops: &[Hop]) -> Result<(), Declined> {
         judge(ways, limits, request, hops)
+    }
+}
+
+impl<L: Rules> TablePolicy<L> for Climbing {
+    fn judge_by_table(
+        ways: &L,
+        limits: TableLimits<'_>,
+        request: Request,
+        hops: &[Hop],
+    ) -> Result<(), Declined> {
+        judge_by_table(ways, limits, request, hops)
     }
 }

@@ -3,3 +3,6 @@
 
 pub mod climbing;
 pub mod policy;
+pub mod table_policy;
+#[cfg(test)]
+mod tests;

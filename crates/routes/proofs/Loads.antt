@@ -1,10 +1,10 @@
 -- The sum of what all streams add to a load, from a table of any length.
-use Rattle.std.proofs.Common.{◌≡◌, ℕ, zero, suc, ◌<◌, ◌≤◌, List, length, min, None, Option, ap, ◌∙◌, ⊎_elim, arith}
+use Rattle.std.proofs.Common.{◌≡◌, ℕ, zero, suc, ◌<◌, ◌≤◌, List, length, min, None, Option, refl, ap, ◌∙◌, ⊎_elim, arith}
 use Rattle.std.proofs.lemmas.Bool.{cases_eq}
 use Rattle.std.proofs.lemmas.List.{get_or_past}
 use Rattle.std.specs.Option.{option_map}
 use Rattle.routes.specs.declared.stream.Stream.{Stream}
-use Rattle.routes.specs.Routes.{stream_of, streams_of}
+use Rattle.routes.specs.Routes.{OpenStream, stream_of, streams_of}
 use Rattle.routes.specs.Loads.{sum_below, share, stream_count, load}
 
 -- a sum to n is the sum to m where nothing is added between
@@ -23,10 +23,14 @@ sum_ends f n (suc m) l nothing =
 none_past : (table : List (Option Stream)) (link k : ℕ) → length table ≤ k → share link (streams_of table k) ≡ 0
 none_past table link k past = ap (λ entry. share link (option_map stream_of entry)) (get_or_past table k None past)
 
--- the entries that are there, of the first 64, tell the load
-pub load_all : (table : List (Option Stream)) (link n sum : ℕ) → n ≡ min (length table) stream_count
-    → sum ≡ sum_below n (λ k. share link (streams_of table k)) → sum ≡ load (streams_of table) link
+-- the first 64 of all streams tell the load
+pub load_all : (streams : ℕ → Option OpenStream) (link n sum : ℕ) → n ≡ stream_count → sum ≡ sum_below n (λ k. share link (streams k)) → sum ≡ load streams link
 unfolding load
-load_all table link n sum there so_far =
-    so_far
-    ∙ sum_ends (λ k. share link (streams_of table k)) n stream_count (omega arith) (λ k from below. none_past table link k (omega arith))
+load_all streams link n sum all so_far = so_far ∙ ap (λ m. sum_below m (λ k. share link (streams k))) all
+
+-- so do those of them that are there in a table
+pub load_there : (table : List (Option Stream)) (link n sum : ℕ) → n ≡ min (length table) stream_count
+    → sum ≡ sum_below n (λ k. share link (streams_of table k)) → sum ≡ load (streams_of table) link
+load_there table link n sum there so_far =
+    load_all (streams_of table) link stream_count sum refl
+    (so_far ∙ sum_ends (λ k. share link (streams_of table k)) n stream_count (omega arith) (λ k from below. none_past table link k (omega arith)))

@@ -11,6 +11,7 @@ use Rattle.routes.specs.declared.check.Check.TheVariants.{OnGrid, Start, Turn as
 use Rattle.routes.specs.declared.declined.Declined.{Declined}
 use Rattle.routes.specs.declared.hop.Hop.{Hop}
 use Rattle.routes.specs.declared.judge.Limits.{Limits}
+use Rattle.routes.specs.declared.judge.TableLimits.{TableLimits}
 use Rattle.routes.specs.declared.stream.Request.{Request}
 use Rattle.routes.specs.Firsts.{first_of, first_below}
 use Rattle.routes.specs.Routes.{OpenStream, count_fits, hop_at, is_on_grid, streams_of, uses}
@@ -29,6 +30,10 @@ terms_on m lanes capacity streams = record { layout = m; lanes = lanes; capacity
 
 abbrev pub terms_of : Meaning → Limits → Terms
 terms_of m limits = terms_on m limits.lanes limits.capacity (streams_of limits.streams.now)
+
+-- the same by a table of any length
+abbrev pub table_terms : Meaning → TableLimits → Terms
+table_terms m limits = terms_on m limits.lanes limits.capacity (streams_of limits.streams.now)
 
 -- a refusal that tells no hop
 abbrev pub no_hop : Refusal → Declined

@@ -2,13 +2,13 @@
 ghost use Rattle.std.specs.Prelude.{◌≡◌, ◌<◌, length};
 ghost use Rattle.layouts.specs.Layout.{meaning_by};
 ghost use Rattle.routes.specs.Firsts.{first_of};
-ghost use Rattle.routes.specs.Checks.{terms_of, field_checks, lanes_fit, fails, verdict};
+ghost use Rattle.routes.specs.Checks.{terms_of, table_terms, field_checks, lanes_fit, fails, verdict};
 ghost use Rattle.routes.specs.Acceptable.{Judges};
 
 use crate::check::Check;
 use crate::declined::Declined;
 use crate::hop::Hop;
-use crate::load::link_load;
+use crate::load::link_load_by_table;
 use crate::route_hops::count_fits;
 use crate::stream::{Request, Stream, uses_link};
 use layouts::rules::Rules;
@@ -23,8 +23,35 @@ pub struct Limits<'a> {
     pub lanes: u16,
     /// How much demand each link can bear.
     pub capacity: u16,
+    /// The open streams by their numbers, which load the links.
+    pub streams: &'a [Option<Stream>; 64],
+}
+
+/// The same with a table of open streams of any length, such as an empty one where nothing bears a load.
+#[derive(Clone, Copy)]
+pub struct TableLimits<'a> {
+    /// How many lanes each link has.
+    pub lanes: u16,
+    /// How much demand each link can bear.
+    pub capacity: u16,
     /// The open streams by their numbers, which load the links; a number past the end is not open.
     pub streams: &'a [Option<Stream>],
+}
+
+impl<'a> Limits<'a> {
+    /// The same limits, with the table as one of any length.
+    pub fn by_table(self) -> TableLimits<'a>
+        ensures lanes { result.lanes ≡ self.entry.lanes }
+        ensures capacity { result.capacity ≡ self.entry.capacity }
+        ensures streams { result.streams.now ≡ self.entry.streams.now }
+    {
+        let streams = self.streams;
+        TableLimits {
+            lanes: self.lanes,
+            capacity: self.capacity,
+            streams,
+        }
+    }
 }
 
 // Whether a route may go from one lane to another at a turn.
@@ -40,14 +67,14 @@ fn lanes_fit(turn: Turn, from: u8, to: u8) -> bool
 // Whether hop k fails a check.
 fn fails<L: Rules>(
     layout: &L,
-    limits: Limits<'_>,
+    limits: TableLimits<'_>,
     request: Request,
     hops: &[Hop],
     check: Check,
     k: usize,
 ) -> bool
     requires { k < length hops.now }
-    ensures { result ≡ fails (terms_of (meaning_by L.topology L.turns layout.now) limits.entry)
+    ensures { result ≡ fails (table_terms (meaning_by L.topology L.turns layout.now) limits.entry)
         request hops.now check k }
 {
     let hop = hops[k];
@@ -64,7 +91,7 @@ fn fails<L: Rules>(
             ),
         Check::End => k + 1 == hops.len() && layout.end(hop.link) != request.target,
         Check::Once => uses_link(&hops[..k], hop.link),
-        Check::Capacity => u64::from(link_load(limits.streams, hop.link))
+        Check::Capacity => u64::from(link_load_by_table(limits.streams, hop.link))
             + u64::from(request.demand)
             > u64::from(limits.capacity),
     }
@@ -107,6 +134,19 @@ pub fn judge<L: Rules>(
     hops: &[Hop],
 ) -> Result<(), Declined>
     ensures { Judges (terms_of (meaning_by L.topology L.turns layout.now) limits.entry)
+        request hops.now result }
+{
+    judge_by_table(layout, limits.by_table(), request, hops)
+}
+
+/// Judges as `judge` does, by a table of open streams of any length.
+pub fn judge_by_table<L: Rules>(
+    layout: &L,
+    limits: TableLimits<'_>,
+    request: Request,
+    hops: &[Hop],
+) -> Result<(), Declined>
+    ensures { Judges (table_terms (meaning_by L.topology L.turns layout.now) limits.entry)
         request hops.now result }
 {
     judge_fields(layout, request)?;

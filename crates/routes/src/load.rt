@@ -17,9 +17,16 @@ fn share_of(entry: &Option<Stream>, link: u16) -> u32
     }
 }
 
+/// The load of a link: the sum of the demands of all open streams whose routes use it.
+pub fn link_load(streams: &[Option<Stream>; 64], link: u16) -> u32
+    ensures { result ≡ load (streams_of streams.now) link }
+{
+    link_load_by_table(streams, link)
+}
+
 // A loop over the table's entries, and in `uses_link` over the hops of each, by docs/DECISIONS.md ("Forms").
-/// The load of a link: the sum of the demands of all open streams whose routes use it. Entries past the 64th do not count.
-pub fn link_load(streams: &[Option<Stream>], link: u16) -> u32
+/// The same by a table of any length. A number past its end is not open, and entries past the 64th do not count.
+pub fn link_load_by_table(streams: &[Option<Stream>], link: u16) -> u32
     ensures { result ≡ load (streams_of streams.now) link }
 {
     let mut sum = 0;

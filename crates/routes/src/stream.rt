@@ -25,7 +25,7 @@ pub struct Stream {
     pub route: Route,
 }
 
-// Whether a link stands in a list of hops. A loop, as `link_load` has one.
+// Whether a link stands in a list of hops. A loop, as `link_load_by_table` has one.
 pub(crate) fn uses_link(hops: &[Hop], link: u16) -> bool
     ensures { result ≡ uses link hops.now }
 {

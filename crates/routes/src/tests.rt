@@ -1,8 +1,8 @@
 // Routes on a 3 × 3 mesh under the rule XY, with three lanes and a capacity of 100, where link 0 bears 80 already.
 use crate::declined::Declined;
 use crate::hop::Hop;
-use crate::judge::{Limits, judge};
-use crate::load::link_load;
+use crate::judge::{Limits, TableLimits, judge, judge_by_table};
+use crate::load::{link_load, link_load_by_table};
 use crate::route::Route;
 use crate::stream::{Request, Stream};
 use layouts::mesh::Mesh;
@@ -183,11 +183,47 @@ fn loads_by_tables_of_any_length(rt: HostRuntime) -> Result<(), Fail> {
         },
         route: Route::new(&[Hop { link: 0, lane: 0 }])?,
     });
-    assert_eq!(rt; link_load(&[], 0), 0);
-    assert_eq!(rt; link_load(&[None, stream], 0), 7);
+    assert_eq!(rt; link_load_by_table(&[], 0), 0);
+    assert_eq!(rt; link_load_by_table(&[None, stream], 0), 7);
     let mut longer = [None; 65];
     longer[63] = stream;
     longer[64] = stream;
-    assert_eq!(rt; link_load(&longer, 0), 7);
+    assert_eq!(rt; link_load_by_table(&longer, 0), 7);
+    Ok(())
+}
+
+// The stream that takes the capacity has number 5.
+#[test]
+fn judges_by_tables_of_any_length(rt: HostRuntime) -> Result<(), Fail> {
+    let mesh = Mesh::new(TurnRule::Xy, 3, 3)?;
+    let request = |demand| Request {
+        source: 0,
+        target: 1,
+        demand,
+    };
+    let hops = [Hop { link: 0, lane: 0 }];
+    let mut streams = [None; 64];
+    streams[5] = Some(Stream {
+        request: request(80),
+        route: Route::new(&hops)?,
+    });
+    let limits = Limits {
+        lanes: 3,
+        capacity: 100,
+        streams: &streams,
+    };
+    let over = at(Refusal::OverCapacity, 0);
+    assert_eq!(rt; judge(&mesh, limits, request(21), &hops).err(), over);
+    let judged = |streams: &[Option<Stream>]| {
+        let limits = TableLimits {
+            streams,
+            ..limits.by_table()
+        };
+        judge_by_table(&mesh, limits, request(21), &hops).err()
+    };
+    assert_eq!(rt; judged(&streams), over);
+    assert_eq!(rt; judged(&streams[..6]), over);
+    assert_eq!(rt; judged(&streams[..5]), None);
+    assert_eq!(rt; judged(&[]), None);
     Ok(())
 }

@@ -3,7 +3,7 @@ ghost use Rattle.layouts.specs.Layout.{meaning_by};
 ghost use Rattle.std.specs.Prelude.{◌≡◌, ◌*◌, ◌≤◌, length};
 ghost use Rattle.std.specs.Result.{result_map_both};
 ghost use Rattle.routes.specs.Routes.{hops_of};
-ghost use Rattle.routes.specs.Checks.{terms_of};
+ghost use Rattle.routes.specs.Checks.{terms_of, table_terms};
 ghost use Rattle.search.specs.Finds.{values_needed, marks_needed, SameBeyond, search_refusal, Finds};
 ghost use Rattle.search.specs.Walks.{problem_in, places, FindsWalk};
 
@@ -17,7 +17,7 @@ use layouts::rules::Rules;
 use layouts::ways::Ways;
 use refusals::refusal::Refusal;
 use routes::declined::Declined;
-use routes::judge::{Limits, judge_fields};
+use routes::judge::{Limits, TableLimits, judge_fields};
 use routes::route::Route;
 use routes::stream::Request;
 
@@ -65,6 +65,26 @@ pub fn find<L: Rules, M: Measure>(
     marks: &mut [u16],
 ) -> Result<Route, Declined>
     ensures found { let t = terms_of (meaning_by L.topology L.turns layout.now) limits.entry in
+        Finds (search_refusal t request (length values.old) (length marks.old))
+        (M.scale measure.now) t request (result_map_both hops_of (λ d. d) result) }
+    ensures values { SameBeyond (values_needed (meaning_by L.topology L.turns layout.now).links
+        limits.entry.lanes) values.old values.new }
+    ensures marks { SameBeyond (marks_needed (meaning_by L.topology L.turns layout.now).links
+        limits.entry.lanes) marks.old marks.new }
+{
+    find_by_table(layout, limits.by_table(), request, measure, values, marks)
+}
+
+/// Searches as `find` does, by a table of open streams of any length.
+pub fn find_by_table<L: Rules, M: Measure>(
+    layout: &L,
+    limits: TableLimits<'_>,
+    request: Request,
+    measure: &M,
+    values: &mut [M::Value],
+    marks: &mut [u16],
+) -> Result<Route, Declined>
+    ensures found { let t = table_terms (meaning_by L.topology L.turns layout.now) limits.entry in
         Finds (search_refusal t request (length values.old) (length marks.old))
         (M.scale measure.now) t request (result_map_both hops_of (λ d. d) result) }
     ensures values { SameBeyond (values_needed (meaning_by L.topology L.turns layout.now).links

@@ -1,6 +1,6 @@
 // The measures at their limits, and one search.
 use crate::choice::{Choice, Either};
-use crate::find::find;
+use crate::find::{find, find_by_table};
 use crate::measure::Measure;
 use crate::peak::Peak;
 use crate::scratch::{check_scratch, marks_needed, values_needed};
@@ -10,7 +10,7 @@ use layouts::turn_rule::TurnRule;
 use refusals::refusal::Refusal;
 use routes::declined::Declined;
 use routes::hop::Hop;
-use routes::judge::Limits;
+use routes::judge::{Limits, TableLimits};
 use routes::route::Route;
 use routes::stream::{Request, Stream};
 use std::test::Fail;
@@ -137,5 +137,46 @@ fn finds_a_way_round(rt: HostRuntime) -> Result<(), Fail> {
         let answer = find(lanes, request(target, 30), &mut [7; 96][..values]);
         assert_eq!(rt; answer.err(), Some(Declined { refusal, hop: None }));
     }
+    Ok(())
+}
+
+// On one lane there is one route, over link 0, which is past the capacity where stream 5 is open.
+#[test]
+fn finds_by_tables_of_any_length(rt: HostRuntime) -> Result<(), Fail> {
+    let hop = |link, lane| Hop { link, lane };
+    let request = |demand| Request {
+        source: 0,
+        target: 1,
+        demand,
+    };
+    let mut streams = [None; 64];
+    streams[5] = Some(Stream {
+        request: request(80),
+        route: Route::new(&[hop(0, 0)])?,
+    });
+    let mesh = Mesh::new(TurnRule::Xy, 3, 3)?;
+    let find = |streams: &[Option<Stream>]| {
+        let limits = TableLimits {
+            lanes: 1,
+            capacity: 100,
+            streams,
+        };
+        find_by_table(
+            &mesh,
+            limits,
+            request(30),
+            &Total,
+            &mut [7; 96],
+            &mut [7; 1152],
+        )
+    };
+    let none = Some(Declined {
+        refusal: Refusal::NoRoute,
+        hop: None,
+    });
+    assert_eq!(rt; find(&streams).err(), none);
+    assert_eq!(rt; find(&streams[..6]).err(), none);
+    assert_eq!(rt; find(&streams[..5])?.hops(), [hop(0, 0)].as_slice());
+    assert_eq!(rt; find(&[])?.hops(), [hop(0, 0)].as_slice());
     Ok(())
 }

@@ -26,7 +26,7 @@ use layouts::ways::Ways;
 use plan::check::check;
 use routes::declined::Declined;
 use routes::hop::Hop;
-use routes::judge::{Limits, judge};
+use routes::judge::{TableLimits, judge_by_table};
 use routes::stream::Request;
 use script::command::{BeatName, Command, MeasureName};
 use script::mistake::Mistake;
@@ -39,12 +39,12 @@ fn judge_unloaded(mesh: &Mesh, request: Request, hops: &[Hop]) -> Result<(), Dec
     ensures { result ≡ verdict (judgement (unloaded (meaning_of mesh.now)) request hops.now) }
 {
     // the most that a grid has
-    let limits = Limits {
+    let limits = TableLimits {
         lanes: 4,
         capacity: 65535,
         streams: &[],
     };
-    judge(mesh, limits, request, hops)
+    judge_by_table(mesh, limits, request, hops)
 }
 
 // The verdict on a plan.

@@ -4,17 +4,17 @@ use Rattle.std.proofs.lemmas.Iterator.{first_from_Range}
 use Rattle.std.proofs.lemmas.Result.{err_from_is_err_and}
 use borrow.Author.Tests.{tests}
 use Rattle.routes.specs.declared.check.Check.TheVariants.{OnGrid}
-use Rattle.routes.specs.Checks.{terms_of, fails}
+use Rattle.routes.specs.Checks.{table_terms, fails}
 use Rattle.routes.specs.Firsts.{first_below}
 use Rattle.routes.proofs.Firsts.{first_below_found}
 use Rattle.routes.proofs.Verdicts.{declined_by, passed_by, told_by, fields_declined, count_declined, hop_by_hop, next_check, none_left, judges}
-use Rattle.routes.proofs.judge.judge.Given as given
-use Rattle.routes.proofs.judge.judge.Goals as goal
-use Rattle.routes.proofs.judge.judge.Goals.{After-find}
+use Rattle.routes.proofs.judge.judge_by_table.Given as given
+use Rattle.routes.proofs.judge.judge_by_table.Goals as goal
+use Rattle.routes.proofs.judge.judge_by_table.Goals.{After-find}
 
 -- whether a hop fails the check at hand
 abbrev test : (g : given.Over) → After-find g → ℕ → Bool
-test g c = fails (terms_of (meaning_by g.L.Ways.topology g.L.Rules.turns c.args.layout.now) c.args.limits) c.args.request c.args.hops.now (get_or c.all-check-items.result c.loop-check.check-index OnGrid)
+test g c = fails (table_terms (meaning_by g.L.Ways.topology g.L.Rules.turns c.args.layout.now) c.args.limits) c.args.request c.args.hops.now (get_or c.all-check-items.result c.loop-check.check-index OnGrid)
 
 -- the search stops at the first hop that does
 searched : (g : given.Over) (c : After-find g) → c.find.result ≡ first_below (length c.args.hops.now) (test g c)
@@ -34,7 +34,7 @@ returns-then-not-count_fits g c =
 pub loop-check-init : goal.loop-check-init
 loop-check-init g c =
     hop_by_hop _ _ _ (passed_by _ c.in_ok-judge_fields.ensures) (sym c.if-not-count_fits.ensures)
-    ∙ ap (told_by (terms_of (meaning_by g.L.Ways.topology g.L.Rules.turns c.args.layout.now) c.args.limits) c.args.request c.args.hops.now) (sym c.all-check-items.ensures)
+    ∙ ap (told_by (table_terms (meaning_by g.L.Ways.topology g.L.Rules.turns c.args.layout.now) c.args.limits) c.args.request c.args.hops.now) (sym c.all-check-items.ensures)
 
 pub returns-in-Some : goal.returns-in-Some
 returns-in-Some g c =

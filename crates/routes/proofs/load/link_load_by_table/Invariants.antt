@@ -1,7 +1,7 @@
 use Rattle.std.proofs.Common.{◌≡◌, ◌*◌, ◌≤◌}
 use Rattle.routes.specs.Routes.{streams_of}
 use Rattle.routes.specs.Loads.{sum_below, share}
-use Rattle.routes.proofs.load.link_load.Given as goal
+use Rattle.routes.proofs.load.link_load_by_table.Given as goal
 
 -- the shares of the streams passed
 abbrev pub invariant-loop-entry : goal.invariant-loop-entry

@@ -5,7 +5,7 @@ use Rattle.std.proofs.lemmas.List.Sums.{sum_by-append}
 use Rattle.model.specs.Kinds.{Kind}
 use Rattle.model.specs.Grid.{Setting, Grid}
 use Rattle.model.specs.Runs.{steps_gone_from}
-use Rattle.model.specs.Safe.{Reached, Safe}
+use Rattle.model.specs.Safe.{Reached, Safe, never_locks}
 use Rattle.model.specs.Standing.{AllStand}
 use Rattle.model.specs.Sweeps.{sweep_of, sweeps_of}
 use Rattle.model.proofs.Joins.{gone_joined}
@@ -50,4 +50,4 @@ module _ {T : Type 0} (k : Kind) (t : Tables) (xs : List T) where
   pub bound_from : k.links ≡ t.lanes.size.links → Safe S → ∥ Reached (k.judge t.lanes.size.lanes t.capacity) (streams_in t) ∥₁ → AllStand (outline t) → BoundFrom k t xs
   bound_from links safe reached stand lends told t' xs' sweeps =
       let all = sweeping sweeps in
-      rw (all.steps, turn_grid k t xs all.in_turn) (keeps_bound S safe.never_locks g reached (kept k t links xs safe reached stand lends) t.lanes.size.deep.0 (length told))
+      rw (all.steps, turn_grid k t xs all.in_turn) (keeps_bound S (never_locks safe) g reached (kept k t links xs safe reached stand lends) t.lanes.size.deep.0 (length told))

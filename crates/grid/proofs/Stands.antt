@@ -9,7 +9,7 @@ use Rattle.model.specs.Grid.{Setting, Grid, enough_slots, route_of}
 use Rattle.model.specs.Calls.{Call, sends, steps, Answer, outcome, send_refusal, lane_refusal, stepping}
 use Rattle.model.specs.Runs.{is_declined}
 use Rattle.model.specs.Outlines.{without_items}
-use Rattle.model.specs.Safe.{Reached, Safe}
+use Rattle.model.specs.Safe.{Reached, Safe, never_locks}
 use Rattle.model.specs.Standing.{takes, AllStand}
 use Rattle.model.proofs.Kept.{Kept}
 use Rattle.model.proofs.Onward.{keeps_from}
@@ -56,7 +56,7 @@ module _ {T : Type 0} (k : Kind) (t : Tables) (links : k.links ≡ t.lanes.size.
     -- after a call that is lent slots enough
     pub stands_next : Lends t xs → (c : Call T) (a : Answer T) (t' : Tables) (xs' : List T) → Makes k t xs c a t' xs' → AllStand (outline t')
     stands_next lends c a t' xs' makes =
-        let next = subst (λ (g : Grid T). AllStand g) (sym makes.grid) (stand_next S (view t xs) safe.never_locks (enough lends) (view_stands t xs lends stand) reached c) in
+        let next = subst (λ (g : Grid T). AllStand g) (sym makes.grid) (stand_next S (view t xs) (never_locks safe) (enough lends) (view_stands t xs lends stand) reached c) in
         subst (λ (g : Grid (Unit {0})). AllStand g) (view_outline t' xs' (lends_next c a t' xs' makes lends)) (outline_stands (view t' xs') next)
 
     -- after any send or step, since too few slots decline it
@@ -79,11 +79,11 @@ module _ {T : Type 0} (k : Kind) (t : Tables) (links : k.links ≡ t.lanes.size.
     stepped_stands link lane = moved_stands (steps link lane) (λ few. rw few refl)
 
     pub kept : Lends t xs → Kept S (view t xs)
-    kept lends = stands_kept S (view t xs) safe.never_locks (enough lends) (view_stands t xs lends stand) reached
+    kept lends = stands_kept S (view t xs) (never_locks safe) (enough lends) (view_stands t xs lends stand) reached
 
     -- the law of every grid
     pub law_from : LawFrom k t xs
-    law_from lends = keeps_from S safe.never_locks (view t xs) reached (kept lends) t.lanes.size.deep.0
+    law_from lends = keeps_from S (never_locks safe) (view t xs) reached (kept lends) t.lanes.size.deep.0
 
 -- after an opening or a closing
 pub edited_stands : (k : Kind) (t : Tables) → k.links ≡ t.lanes.size.links → Safe (setting k t (length (slots_alike t))) → ∥ Reached (k.judge t.lanes.size.lanes t.capacity) (streams_in t) ∥₁

@@ -8,7 +8,7 @@ use Rattle.model.specs.Grid.{Setting, Queue, Grid, enough_slots}
 use Rattle.model.specs.Sums.{hops_ahead}
 use Rattle.model.specs.Calls.{steps, Answer, declined, done, moved, out}
 use Rattle.model.specs.Runs.{History, start, ◌▸◌, after_from, answer_from, handed_out_from, steps_gone_from, then_calls, is_declined, leaving}
-use Rattle.model.specs.Safe.{Reached, Safe}
+use Rattle.model.specs.Safe.{Reached, Safe, never_locks}
 use Rattle.model.specs.Standing.{AllStand}
 use Rattle.model.specs.Sweeps.{sweep_of}
 use Rattle.model.proofs.Sweeping.{sweep_goes, sweep_hops}
@@ -135,8 +135,8 @@ module _ {T : Type 0} (w : Workspace T) (links : w.kind.links ≡ w.tables.lanes
         items = all.items;
         few = few;
         most = most;
-        progress = λ some. omega (arith, all.steps, sweep_goes S safe.never_locks g reached kept w.tables.lanes.size.deep.0 some);
-        hops = omega (arith, ahead_after, all.steps, sweep_hops S safe.never_locks g reached kept);
+        progress = λ some. omega (arith, all.steps, sweep_goes S (never_locks safe) g reached kept w.tables.lanes.size.deep.0 some);
+        hops = omega (arith, ahead_after, all.steps, sweep_hops S (never_locks safe) g reached kept);
       }
 
 -- ---- a sweep after other calls

@@ -126,10 +126,8 @@ module _ (w : Topology) (lanes : ℕ) where
       takes = λ streams q hops judged.
           let a = (asks q hops capacity streams judged).0 in
           record { count = passed _ HopCount a.count; there = all_there hops (there q hops a) };
-      never_locks = record {
-        proper = λ streams reached n. (all_upward streams reached n).0;
-        ranked = λ streams reached. (number, λ n. (all_upward streams reached n).1);
-      };
+      proper = λ streams reached n. (all_upward streams reached n).0;
+      ranked = λ streams reached. (number, λ n. (all_upward streams reached n).1);
     }
 
   pub upward_reopens : (capacity : ℕ) → Reopens (upward w) lanes capacity

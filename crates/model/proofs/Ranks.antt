@@ -93,8 +93,6 @@ module _ (m : Meaning) (law : Lawful m) where
             count = grind (arith, nat_tests, a.count);
             there = all_there hops (λ k low. a.on_grid k low);
           };
-      never_locks = record {
-        proper = λ streams reached n. (all_ranked streams reached n).0;
-        ranked = λ streams reached. (rank m, λ n. (all_ranked streams reached n).1);
-      };
+      proper = λ streams reached n. (all_ranked streams reached n).0;
+      ranked = λ streams reached. (rank m, λ n. (all_ranked streams reached n).1);
     }

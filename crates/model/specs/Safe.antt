@@ -40,14 +40,25 @@ pub record Takes (S : Setting) (hops : List Hop) : Type 0 where
   pub count : count_fits hops ≡ true
   pub there : list_all (is_on_grid S.links S.lanes) hops ≡ true
 
--- A grid never locks if, whatever open streams openings and closings lead to, each route is proper and some rank of the hops
--- rises along all of them.
+-- whatever open streams openings and closings lead to, each route is proper
+abbrev pub AllProper : Setting → Type 0
+AllProper S = (streams : Streams) → Reached S.judge streams → (n : ℕ) → Proper S (route_of (streams n))
+
+-- and some rank of the hops rises along all of them
+abbrev pub AllRanked : Setting → Type 0
+AllRanked S = (streams : Streams) → Reached S.judge streams → (rank : Hop → ℕ) × ((n : ℕ) → Rises rank (route_of (streams n)))
+
+-- A grid never locks if that is so.
 pub record NeverLocks (S : Setting) : Type 0 where
-  pub proper : (streams : Streams) → Reached S.judge streams → (n : ℕ) → Proper S (route_of (streams n))
-  pub ranked : (streams : Streams) → Reached S.judge streams
-      → (rank : Hop → ℕ) × ((n : ℕ) → Rises rank (route_of (streams n)))
+  pub proper : AllProper S
+  pub ranked : AllRanked S
 
 -- A grid is safe if what its judgement lets in is a route that is taken, and if it never locks.
 pub record Safe (S : Setting) : Type 0 where
   pub takes : (streams : Streams) (q : Request) (hops : List Hop) → S.judge streams q hops ≡ None → Takes S hops
-  pub never_locks : NeverLocks S
+  pub proper : AllProper S
+  pub ranked : AllRanked S
+
+-- the part of that which the law of every run rests on
+abbrev pub never_locks : {S : Setting} → Safe S → NeverLocks S
+never_locks safe = record { proper = safe.proper; ranked = safe.ranked }

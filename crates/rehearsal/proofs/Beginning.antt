@@ -6,7 +6,7 @@ use Rattle.routes.specs.Routes.{OpenStream}
 use Rattle.model.specs.Grid.{Setting, Grid, enough_slots}
 use Rattle.model.specs.Sums.{item_count}
 use Rattle.model.specs.Runs.{History, after_from, steps_gone_from}
-use Rattle.model.specs.Safe.{Reached, Takes, Safe}
+use Rattle.model.specs.Safe.{Reached, Takes, Safe, never_locks}
 use Rattle.model.specs.Standing.{AllStand}
 use Rattle.model.specs.Sweeps.{sweep_of}
 use Rattle.model.specs.Reopening.{Reopens}
@@ -62,13 +62,13 @@ module _ (w : Workspace Strip) where
         → ∥ Reached (w.kind.judge w.tables.lanes.size.lanes w.tables.capacity) (streams_in w.tables) ∥₁ → AllStand (outline w.tables)
         → item_count (setting w.kind w.tables 0) (outline w.tables) ≡ 0 → Ready
     ready safe owed reached stand none =
-        let later = reached_and_kept S safe.never_locks g reached (kept w.kind w.tables links w.slots safe reached stand lends) in
+        let later = reached_and_kept S (never_locks safe) g reached (kept w.kind w.tables links w.slots safe reached stand lends) in
         record {
           enough = lent;
           none = sym shown ∙ none;
           takes = open_takes w.kind w.tables.lanes.size.lanes w.tables.capacity owed (streams_in w.tables) reached w.tables.lanes.size.depth (length w.slots) safe;
           kept = λ next. (later next).1;
-          idle = λ next. sweep_idle S safe.never_locks (after_from S g next) (later next).0 (later next).1;
+          idle = λ next. sweep_idle S (never_locks safe) (after_from S g next) (later next).0 (later next).1;
           law = law_from w.kind w.tables links w.slots safe reached stand lends;
         }
 

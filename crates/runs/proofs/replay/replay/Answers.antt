@@ -1,4 +1,5 @@
 use Rattle.std.proofs.Common.{length, vec_items, ap, ◌∙◌, refl, arith}
+use Rattle.model.specs.Safe.{never_locks}
 use Rattle.model.proofs.Theorem.{every_run}
 use Rattle.runs.specs.Routings.{finding}
 use Rattle.runs.specs.Meanings.{conditions, setting_in}
@@ -12,7 +13,7 @@ loop-k-init g c =
     let xs = c.args.lent.now.slots.now in
     let C = conditions (g.P.Policy.kind c.args.ways) z (finding g.R.Routing.searches g.R.Routing.finds c.args.ways) c.args.lent.now in
     let deep = rw blank.has_depth at c.in_ok-grid.grid.tables.lanes.size.deep.0 in
-    let law = every_run g.row.T.Denot (setting_in C) deep (g.met.P.Policy.safe c.args.ways z.lanes z.depth z.capacity (length xs)).never_locks in
+    let law = every_run g.row.T.Denot (setting_in C) deep (never_locks (g.met.P.Policy.safe c.args.ways z.lanes z.depth z.capacity (length xs))) in
     record {
       layout_is = c.in_ok-grid.ensures.layout;
       made =
